@@ -1,0 +1,11 @@
+-- `conelist::record_refusal` meets its contract. Assumes nothing.
+use borrow.Author.Needs.{needs}
+use Rattle.conelist.proofs.Records.{records}
+use Rattle.conelist.proofs.record_refusal.Statement.{statement}
+use Rattle.conelist.proofs.record_refusal.Tie as tie
+
+pub record-refusal-spec : {M : Type 1} → statement M
+record-refusal-spec =
+    tie.close (tie.spec
+    (λ c κs. search needs) (λ c κs. search needs) (λ c κs. search needs)
+    (λ c. search records) (λ c. search records) (λ c. search records) (λ c. search records) (λ c. search records))
