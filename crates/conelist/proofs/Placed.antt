@@ -3,12 +3,18 @@ use Prim.Native.Nat.{ℕ, _+_, _-_, _≤_, _<_}
 use native.Mathlib.Omega.{arith}
 use mathlib.Core.Path.{_≡_, refl, sym, _∙_}
 use mathlib.Core.Bool.{Bool, true, false, cond, _&&_}
-use borrow.Author.Tests.{leb-true, leb-false, le-leb, lt-leb}
-use lib.Dec.{ltb, leb}
+use mathlib.Core.List.{List, [], _∷_}
+use borrow.Author.Tests.{ltb-true, leb-true, leb-false, le-leb, lt-leb, eqb-true}
+use lib.Dec.{ltb, leb, eqb}
+use Rattle.answers.specs.Refusal.{_⊳_}
+use Rattle.answers.proofs.Laws.{clear-both, clear-lengths}
+use Rattle.conelist.specs.declared.Kind.{Kind}
+use Rattle.conelist.specs.declared.Kind.the-variants.{SecondOrder}
 use Rattle.conelist.specs.declared.Place.{Place}
-use Rattle.conelist.specs.Layout.{Dim, LeastDim, BlockDim, Misplaced, Spot}
+use Rattle.conelist.specs.Layout.{Dim, LeastDim, BlockDim, Misplaced, Spot, FitAnd, AllFit, RefusalAt}
 
 -- ---- the tests of `within`
+
 pub past : (at n all : ℕ) → all < n → false ≡ leb (at + n) all
 past at n all h = sym (lt-leb (at + n) all (omega arith))
 
@@ -31,3 +37,61 @@ module _ (p : Place) (n least m : ℕ) (s t : Bool) (e : n ≡ Dim (p .kind)) (f
   bad h = rw (← d, ← f, ← e, ← u, ← v, h)
 
 pub ruleset spots = (fine, bad)
+
+-- ---- no refusal: the cone's ranges lie inside
+
+pub record Ready (p : Place) : Type 0 where
+  pub enough : LeastDim (p .kind) ≤ Dim (p .kind)
+  pub most : Dim (p .kind) ≤ 4096
+  pub inside : p .start + Dim (p .kind) ≤ p .entries
+  pub named : p .index < p .count
+  pub block-inside : p .block + BlockDim (p .kind) ≤ p .blocks
+
+both : (s t : Bool) → s && t ≡ true → (s ≡ true) × (t ≡ true)
+both true t e = (refl, e)
+both false t e = let z : _≡_ {A = ℕ} 0 1 = cc in absurd (omega arith)
+
+clear : (t : Bool) → _≡_ {A = ℕ} (cond t 0 4) 0 → t ≡ true
+clear true e = refl
+clear false e = absurd (omega arith)
+
+pub clear-misplaced : (p : Place) → Misplaced p ≡ 0 → Ready p
+unfolding Misplaced
+clear-misplaced p e =
+    let r = both _ _ (clear _ e) in
+    let s = both _ _ (r .0) in
+    let t = both _ _ (s .0) in
+    let u = both _ _ (t .0) in
+    record {
+      enough = leb-true _ _ (u .0);
+      most = leb-true _ _ (u .1);
+      inside = leb-true _ _ (t .1);
+      named = ltb-true _ _ (s .1);
+      block-inside = leb-true _ _ (r .1);
+    }
+
+-- and each slice has its length
+abbrev pub Fits : List (ℕ × ℕ) → Type 0
+Fits [] = Unit {0}
+Fits (m ∷ ms) = (m .0 ≡ m .1) × Fits ms
+
+fit-and : (t : Bool) (ms : List (ℕ × ℕ)) → FitAnd t ms ≡ true → (t ≡ true) × Fits ms
+fit-and t [] e = (e, tt)
+fit-and t (m ∷ ms) e =
+    let r = fit-and (t && eqb (m .0) (m .1)) ms e in
+    let b = both t (eqb (m .0) (m .1)) (r .0) in
+    (b .0, (eqb-true (m .0) (m .1) (b .1), r .1))
+
+all-fit : (ms : List (ℕ × ℕ)) → AllFit ms ≡ true → Fits ms
+all-fit [] e = tt
+all-fit (m ∷ ms) e = let r = fit-and (eqb (m .0) (m .1)) ms e in (eqb-true (m .0) (m .1) (r .0), r .1)
+
+pub record Open (p : Place) (ms : List (ℕ × ℕ)) : Type 0 where
+  pub here : Ready p
+  pub same : Fits ms
+
+-- k is the number that the call computed
+pub open-at : (p : Place) (ms : List (ℕ × ℕ)) (k : ℕ) → k ≡ RefusalAt p ms → k ≡ 0 → Open p ms
+open-at p ms k e z =
+    let r = clear-both _ _ (sym e ∙ z) in
+    record { here = clear-misplaced p (clear-both _ _ (r .0) .1); same = all-fit ms (clear-lengths _ (r .1)) }

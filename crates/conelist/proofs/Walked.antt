@@ -110,18 +110,25 @@ module _ (index : ℕ) where
 
 pub walked : (cs : List Cone) (k : ℕ) → Closing (FoldFrom cs (Opening (length cs) k)) ≡ PlaceOf cs k
 unfolding Closing Opening PlaceOf _⊳_
-walked cs k = go (ltb 256 (length cs)) (BadRecords 0 cs) (ltb k (length cs)) refl refl refl
+walked cs k = go (ltb 256 (length cs)) (BadRecords 0 cs) (ltb k (length cs)) refl refl
   where
-    start : Place
-    start = so-far k 0 (Nonnegative 0) 0 0 0 0
+    E : ℕ
+    E = Before Dim cs (length cs)
 
-    go : (s : Bool) (n : ℕ) (t : Bool) → ltb 256 (length cs) ≡ s → BadRecords 0 cs ≡ n → ltb k (length cs) ≡ t
-        → Closing (FoldFrom cs (Found (cond s 2 0) start)) ≡ Found (cond s 2 0 ⊳ n ⊳ cond t 0 4) (Row cs k)
-    go true n t e f g = rw (stays cs 1)
-    go false (suc n) t e f g = rw (wrong k cs 0 (Nonnegative 0) 0 0 0 0 n f, ne-eqb (suc n) 0 (λ h. omega arith))
-    go false zero true e f g =
-        let l = ltb-true k (length cs) g in
-        rw (met k (Before Dim cs (length cs)) (length cs) (Before BlockDim cs (length cs)) cs 0 (Nonnegative 0) 0 0 0 0 k f (omega arith) (omega arith) (omega arith) l (omega arith), g, zero-add (Before Dim cs k), zero-add (Before BlockDim cs k))
-    go false zero false e f g =
-        let l = ltb-false k (length cs) g in
-        rw (unmet k (Before Dim cs (length cs)) (length cs) (Before BlockDim cs (length cs)) cs 0 (Nonnegative 0) 0 0 0 0 f (omega arith) (omega arith) (omega arith) (λ j i h. omega arith), g)
+    C : ℕ
+    C = length cs
+
+    B : ℕ
+    B = Before BlockDim cs (length cs)
+
+    go : (s : Bool) (n : ℕ) (t : Bool) → BadRecords 0 cs ≡ n → ltb k C ≡ t → let no = cond s 2 0 ⊳ n ⊳ cond t 0 4 in
+        Closing (FoldFrom cs (Found (cond s 2 0) (so-far k 0 (Nonnegative 0) 0 0 0 0)))
+        ≡ Found no (record { no = no; index = k; start = Before Dim cs k; kind = KindAt cs k; block = Before BlockDim cs k; entries = E; count = C; blocks = B })
+    go true n t f g = rw (stays cs 1)
+    go false (suc n) t f g = rw (wrong k cs 0 (Nonnegative 0) 0 0 0 0 n f, ne-eqb (suc n) 0 (λ h. omega arith))
+    go false zero true f g =
+        let l = ltb-true k C g in
+        rw (met k E C B cs 0 (Nonnegative 0) 0 0 0 0 k f (omega arith) (omega arith) (omega arith) l (omega arith), g, zero-add (Before Dim cs k), zero-add (Before BlockDim cs k))
+    go false zero false f g =
+        let l = ltb-false k C g in
+        rw (unmet k E C B cs 0 (Nonnegative 0) 0 0 0 0 f (omega arith) (omega arith) (omega arith) (λ j i h. omega arith), g)

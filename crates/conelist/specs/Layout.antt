@@ -1,11 +1,11 @@
 -- Document 01, "The list and its buffers" and "Refusal numbers": where each cone of a list lies, and the refusals of rank up to 4. Assumes nothing.
 use Prim.Native.Nat.{ℕ, zero, suc, _+_, _*_, _/_}
-use mathlib.Core.Bool.{cond, _&&_}
+use mathlib.Core.Bool.{Bool, true, cond, _&&_}
 use mathlib.Core.List.{List, [], _∷_, _++_}
 use lib.Dec.{ltb, leb, eqb}
 use lib.ListN.{length, take, drop}
 use lib.Ieee.{Float}
-use Rattle.answers.specs.Refusal.{_⊳_, BadDimension}
+use Rattle.answers.specs.Refusal.{_⊳_, BadDimension, Unlike}
 use Rattle.conelist.specs.declared.Kind.{Kind}
 use Rattle.conelist.specs.declared.Kind.the-variants.{Nonnegative, SecondOrder}
 use Rattle.conelist.specs.declared.Cone.{Cone}
@@ -68,12 +68,12 @@ abbrev pub Found : ℕ → Place → Place
 Found zero p = p
 Found (suc n) p = Alone (suc n)
 
--- cone k, in a list that is not refused: "w, lambda, .. are as long as all entries together; η and d have one number per cone; the block
+-- cone k, where the list is not refused: "w, lambda, .. are as long as all entries together; η and d have one number per cone; the block
 -- buffer holds each cone's Hs block behind the other"
 abbrev pub Row : List Cone → ℕ → Place
 Row cs k =
     record {
-      no = 0;
+      no = BadPlace cs k;
       index = k;
       start = Before Dim cs k;
       kind = KindAt cs k;
@@ -97,6 +97,19 @@ Misplaced p =
 
 abbrev pub Spot : Place → ℕ
 Spot p = p .no ⊳ Misplaced p
+
+-- each lent slice, by its length and the length that it must have
+abbrev pub FitAnd : Bool → List (ℕ × ℕ) → Bool
+FitAnd t [] = t
+FitAnd t (m ∷ ms) = FitAnd (t && eqb (m .0) (m .1)) ms
+
+abbrev pub AllFit : List (ℕ × ℕ) → Bool
+AllFit [] = true
+AllFit (m ∷ ms) = FitAnd (eqb (m .0) (m .1)) ms
+
+-- a call over a place: its refusals up to 4, then 5
+abbrev pub RefusalAt : Place → List (ℕ × ℕ) → ℕ
+RefusalAt p ms = Spot p ⊳ Unlike (AllFit ms)
 
 -- ---- "the cone's own range of each buffer, from its start": n numbers from `at` on; and the buffer with that range replaced
 

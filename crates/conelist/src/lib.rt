@@ -4,6 +4,7 @@
 ghost use mathlib.Core.Path.{_≡_};
 ghost use Prim.Native.Nat.{_+_};
 ghost use lib.Dec.{leb};
+ghost use Rattle.answers.specs.Refusal.{_⊳_, Unlike};
 ghost use Rattle.conelist.specs.Layout.{Dim, LeastDim, BlockDim, BadRecord, Alone, PlaceOf, Misplaced, Spot};
 ghost use Rattle.conelist.specs.Walk.{Opening, StepOf, Closing, Going};
 
@@ -208,4 +209,11 @@ pub fn spot(p: Place) -> u8
     ensures { λ r. ⌜ r ≡ Spot p ⌝ }
 {
     answers::first_refusal(p.no, misplaced(p))
+}
+
+// The refusals of a call over a place: 1 to 4, then 5, where `same` says that each slice has its length.
+pub fn refusal(p: Place, same: bool) -> u8
+    ensures { λ r. ⌜ r ≡ Spot p ⊳ Unlike same ⌝ }
+{
+    answers::first_refusal(spot(p), answers::length_refusal(same))
 }
