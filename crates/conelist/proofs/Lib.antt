@@ -5,3 +5,4 @@ pub mod Walked
 pub mod Laid
 pub mod Placed
 pub mod Element
+pub mod Forward
