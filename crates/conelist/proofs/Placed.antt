@@ -11,7 +11,7 @@ use Rattle.answers.proofs.Laws.{clear-both, clear-lengths}
 use Rattle.conelist.specs.declared.Kind.{Kind}
 use Rattle.conelist.specs.declared.Kind.the-variants.{SecondOrder}
 use Rattle.conelist.specs.declared.Place.{Place}
-use Rattle.conelist.specs.Layout.{Dim, LeastDim, BlockDim, Misplaced, Spot, FitAnd, AllFit, RefusalAt}
+use Rattle.conelist.specs.Layout.{Dim, LeastDim, BlockDim, Misplaced, Spot, FitAnd, AllFit, RefusalAt, Ready, Fits, Open}
 
 -- ---- the tests of `within`
 
@@ -40,13 +40,6 @@ pub ruleset spots = (fine, bad)
 
 -- ---- no refusal: the cone's ranges lie inside
 
-pub record Ready (p : Place) : Type 0 where
-  pub enough : LeastDim (p .kind) ≤ Dim (p .kind)
-  pub most : Dim (p .kind) ≤ 4096
-  pub inside : p .start + Dim (p .kind) ≤ p .entries
-  pub named : p .index < p .count
-  pub block-inside : p .block + BlockDim (p .kind) ≤ p .blocks
-
 both : (s t : Bool) → s && t ≡ true → (s ≡ true) × (t ≡ true)
 both true t e = (refl, e)
 both false t e = let z : _≡_ {A = ℕ} 0 1 = cc in absurd (omega arith)
@@ -70,11 +63,6 @@ clear-misplaced p e =
       block-inside = leb-true _ _ (r .1);
     }
 
--- and each slice has its length
-abbrev pub Fits : List (ℕ × ℕ) → Type 0
-Fits [] = Unit {0}
-Fits (m ∷ ms) = (m .0 ≡ m .1) × Fits ms
-
 fit-and : (t : Bool) (ms : List (ℕ × ℕ)) → FitAnd t ms ≡ true → (t ≡ true) × Fits ms
 fit-and t [] e = (e, tt)
 fit-and t (m ∷ ms) e =
@@ -85,10 +73,6 @@ fit-and t (m ∷ ms) e =
 all-fit : (ms : List (ℕ × ℕ)) → AllFit ms ≡ true → Fits ms
 all-fit [] e = tt
 all-fit (m ∷ ms) e = let r = fit-and (eqb (m .0) (m .1)) ms e in (eqb-true (m .0) (m .1) (r .0), r .1)
-
-pub record Open (p : Place) (ms : List (ℕ × ℕ)) : Type 0 where
-  pub here : Ready p
-  pub same : Fits ms
 
 -- k is the number that the call computed
 pub open-at : (p : Place) (ms : List (ℕ × ℕ)) (k : ℕ) → k ≡ RefusalAt p ms → k ≡ 0 → Open p ms

@@ -1,5 +1,6 @@
 -- Document 01, "The list and its buffers" and "Refusal numbers": where each cone of a list lies, and the refusals of rank up to 4. Assumes nothing.
-use Prim.Native.Nat.{ℕ, zero, suc, _+_, _*_, _/_}
+use Prim.Native.Nat.{ℕ, zero, suc, _+_, _*_, _/_, _≤_, _<_}
+use mathlib.Core.Path.{_≡_}
 use mathlib.Core.Bool.{Bool, true, cond, _&&_}
 use mathlib.Core.List.{List, [], _∷_, _++_}
 use lib.Dec.{ltb, leb, eqb}
@@ -111,6 +112,22 @@ AllFit (m ∷ ms) = FitAnd (eqb (m .0) (m .1)) ms
 abbrev pub RefusalAt : Place → List (ℕ × ℕ) → ℕ
 RefusalAt p ms = Spot p ⊳ Unlike (AllFit ms)
 
+-- what such a call has where it is not refused: the cone's ranges lie inside, and each slice has its length
+pub record Ready (p : Place) : Type 0 where
+  pub enough : LeastDim (p .kind) ≤ Dim (p .kind)
+  pub most : Dim (p .kind) ≤ 4096
+  pub inside : p .start + Dim (p .kind) ≤ p .entries
+  pub named : p .index < p .count
+  pub block-inside : p .block + BlockDim (p .kind) ≤ p .blocks
+
+abbrev pub Fits : List (ℕ × ℕ) → Type 0
+Fits [] = Unit {0}
+Fits (m ∷ ms) = (m .0 ≡ m .1) × Fits ms
+
+pub record Open (p : Place) (ms : List (ℕ × ℕ)) : Type 0 where
+  pub here : Ready p
+  pub same : Fits ms
+
 -- ---- "the cone's own range of each buffer, from its start": n numbers from `at` on; and the buffer with that range replaced
 
 unfoldable pub Part : ℕ → ℕ → List Float → List Float
@@ -118,3 +135,16 @@ Part at n y = take n (drop at y)
 
 unfoldable pub Put : ℕ → ℕ → List Float → List Float → List Float
 Put at n y new = take at y ++ (new ++ drop n (drop at y))
+
+-- a cone's own range of a number per entry, and of the blocks
+abbrev pub Of : Place → List Float → List Float
+Of p y = Part (p .start) (Dim (p .kind)) y
+
+abbrev pub With : Place → List Float → List Float → List Float
+With p y new = Put (p .start) (Dim (p .kind)) y new
+
+abbrev pub OfBlock : Place → List Float → List Float
+OfBlock p y = Part (p .block) (BlockDim (p .kind)) y
+
+abbrev pub WithBlock : Place → List Float → List Float → List Float
+WithBlock p y new = Put (p .block) (BlockDim (p .kind)) y new

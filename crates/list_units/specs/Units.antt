@@ -1,0 +1,25 @@
+-- Document 01, unit shift, over a list. Assumes nothing.
+use mathlib.Core.List.{List, [], _∷_}
+use lib.ListN.{length}
+use lib.Ieee.{Float}
+use Rattle.answers.specs.Outcome.{done, Came, Call}
+use Rattle.vecmath.specs.Double.{_⊕_, _!_}
+use Rattle.vecmath.specs.Vector.{Translate}
+use Rattle.tails.specs.Tail.{Tail}
+use Rattle.conelist.specs.declared.Kind.{Kind}
+use Rattle.conelist.specs.declared.Kind.the-variants.{Nonnegative, SecondOrder}
+use Rattle.conelist.specs.declared.Place.{Place}
+use Rattle.conelist.specs.Layout.{RefusalAt, Of, With}
+
+-- unit shift "adds α to the first entry"
+unfoldable pub UnitShift : List Float → Float → List Float
+UnitShift z α = z ! 0 ⊕ α ∷ Tail z
+
+-- by the cone's kind: "unit shift adds α everywhere" to a nonnegative cone
+unfoldable pub KindShift : Kind → List Float → Float → List Float
+KindShift (Nonnegative n) z α = Translate α z
+KindShift (SecondOrder n) z α = UnitShift z α
+
+-- the cone at p
+abbrev pub ConeShift : Place → List Float → Float → Came
+ConeShift p z α = Call (RefusalAt p ((length z, p .entries) ∷ [])) done (z ∷ []) (With p z (KindShift (p .kind) (Of p z) α) ∷ [])
