@@ -1,0 +1,13 @@
+-- `soc_residual::sqrt_residual` meets its contract. Assumes nothing.
+use borrow.Author.Needs.{needs}
+use Rattle.soc_residual.specs.Residual.{RootScale}
+use Rattle.soc_residual.proofs.sqrt_residual.Statement.{statement}
+use Rattle.soc_residual.proofs.sqrt_residual.Tie as tie
+
+pub sqrt-residual-spec : {M : Type 1} → statement M
+unfolding RootScale
+sqrt-residual-spec =
+    tie.close (tie.spec
+    (λ c κs. search needs) (λ c κs. search needs)
+    (λ c. rw (← c .before .before .residual .ensures, c .before .if1 .taken) (c .sqrt .ensures))
+    (λ c. rw (← c .before .residual .ensures, c .if1 .left)))
