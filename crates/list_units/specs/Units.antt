@@ -3,19 +3,14 @@ use mathlib.Core.List.{List, [], _∷_}
 use lib.ListN.{length}
 use lib.Ieee.{Float}
 use Rattle.answers.specs.Outcome.{done, Came, Call}
-use Rattle.vecmath.specs.Double.{_⊕_, _!_}
 use Rattle.vecmath.specs.Vector.{Translate}
-use Rattle.tails.specs.Tail.{Tail}
+use Rattle.soc_residual.specs.Residual.{UnitShift}
 use Rattle.conelist.specs.declared.Kind.{Kind}
 use Rattle.conelist.specs.declared.Kind.the-variants.{Nonnegative, SecondOrder}
 use Rattle.conelist.specs.declared.Place.{Place}
 use Rattle.conelist.specs.Layout.{RefusalAt, Of, With}
 
--- unit shift "adds α to the first entry"
-unfoldable pub UnitShift : List Float → Float → List Float
-UnitShift z α = z ! 0 ⊕ α ∷ Tail z
-
--- by the cone's kind: "unit shift adds α everywhere" to a nonnegative cone
+-- unit shift by the cone's kind: it "adds α everywhere" to a nonnegative one
 unfoldable pub KindShift : Kind → List Float → Float → List Float
 KindShift (Nonnegative n) z α = Translate α z
 KindShift (SecondOrder n) z α = UnitShift z α

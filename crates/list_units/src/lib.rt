@@ -7,18 +7,8 @@ ghost use mathlib.Core.Path.{_≡_};
 ghost use mathlib.Core.List.{[], _∷_};
 ghost use lib.ListN.{length};
 ghost use Rattle.answers.specs.Outcome.{told};
-ghost use Rattle.answers.specs.Refusal.{Fit};
 ghost use Rattle.conelist.specs.Layout.{Open, With, Of};
-ghost use Rattle.list_units.specs.Units.{UnitShift, KindShift, ConeShift};
-
-// Of a second-order cone: on the first entry.
-fn first_shift(z: &mut [f64], alpha: f64)
-    requires { ⌜ Fit 2 (length (now z)) [] ⌝ }
-    ensures { λ _. ⌜ now (z .exit) ≡ UnitShift (now (z .entry)) alpha ⌝ }
-{
-    let z0 = z[0] + alpha;
-    tails::set_first(z, z0);
-}
+ghost use Rattle.list_units.specs.Units.{KindShift, ConeShift};
 
 // On the cone's own range.
 fn shift_in(p: Place, z: &mut [f64], alpha: f64)
@@ -30,7 +20,7 @@ fn shift_in(p: Place, z: &mut [f64], alpha: f64)
     let end = at + conelist::dim(kind);
     match kind {
         Kind::Nonnegative(n) => vecmath::translate(&mut z[at..end], alpha),
-        Kind::SecondOrder(n) => first_shift(&mut z[at..end], alpha),
+        Kind::SecondOrder(n) => soc_residual::scaled_unit_shift(&mut z[at..end], alpha),
     }
 }
 
