@@ -2,19 +2,19 @@
 use Prim.Native.Nat.{ℕ, _+_, _-_, _≤_, _<_}
 use native.Mathlib.Omega.{arith}
 use native.Mathlib.Nat.{add-sub-cancel-left}
-use mathlib.Core.Path.{_≡_, refl, sym, subst, _∙_}
+use mathlib.Core.Path.{_≡_, refl, sym, ap, _∙_}
 use mathlib.Core.Bool.{Bool, true, false, cond, _&&_}
-use mathlib.Core.List.{List, [], _∷_}
+use mathlib.Core.List.{List, [], _∷_, _++_}
 use borrow.Author.Tests.{ltb-true, leb-true, leb-false, le-leb, lt-leb, eqb-true}
 use lib.Dec.{ltb, leb, eqb}
-use lib.ListN.{length, take, drop, length-take, length-drop}
+use lib.ListN.{take, drop}
 use lib.Ieee.{Float}
 use Rattle.answers.specs.Refusal.{_⊳_}
 use Rattle.answers.proofs.Laws.{clear-both, clear-lengths}
 use Rattle.conelist.specs.declared.Kind.{Kind}
 use Rattle.conelist.specs.declared.Kind.the-variants.{SecondOrder}
 use Rattle.conelist.specs.declared.Place.{Place}
-use Rattle.conelist.specs.Layout.{Dim, LeastDim, BlockDim, Misplaced, Spot, FitAnd, AllFit, RefusalAt, Ready, Fits, Open}
+use Rattle.conelist.specs.Layout.{Dim, LeastDim, BlockDim, Misplaced, Spot, FitAnd, AllFit, RefusalAt, Ready, Fits, Open, Part, Put}
 
 -- ---- the tests of `within`
 
@@ -83,22 +83,16 @@ open-at p ms k e z =
     let r = clear-both _ _ (sym e ∙ z) in
     record { here = clear-misplaced p (clear-both _ _ (r .0) .1); same = all-fit ms (clear-lengths _ (r .1)) }
 
--- ---- a part that is lent, from the cone's start to its end, and what a kernel asks of it; n is what `dim` gave
+-- ---- a range that is lent, and given back: n is what `dim` gave for m
 
-pub own-long : (p : Place) (n : ℕ) (z : List Float) → n ≡ Dim (p .kind) → p .start + Dim (p .kind) ≤ length z → length (take (p .start + n - p .start) (drop (p .start) z)) ≡ Dim (p .kind)
-own-long p n z e h = simp (add-sub-cancel-left, length-take, length-drop) (omega arith)
+pub lent : {n m : ℕ} → n ≡ m → (at : ℕ) (z : List Float) → take (at + n - at) (drop at z) ≡ Part at m z
+unfolding Part
+lent e at z = rw (add-sub-cancel-left, e)
 
-pub inside-of : (p : Place) (z : List Float) → Ready p → length z ≡ p .entries → p .start + Dim (p .kind) ≤ length z
-inside-of p z r e = omega (arith, r .inside)
+pub back : {n m : ℕ} → n ≡ m → (at : ℕ) (z : List Float) {part new : List Float} → part ≡ new → take at z ++ (part ++ drop (at + n - at) (drop at z)) ≡ Put at m z new
+unfolding Put
+back e at z f = rw (add-sub-cancel-left, e, f)
 
-pub own-same : (p : Place) (a b : ℕ) → a ≡ Dim (p .kind) → b ≡ Dim (p .kind) → a ≡ b
-own-same p a b e f = e ∙ sym f
-
--- a second-order cone
-pub own-enough : (p : Place) (m a : ℕ) → Ready p → p .kind ≡ SecondOrder m → a ≡ Dim (p .kind) → 2 ≤ a
-own-enough p m a r k e = let two : 2 ≤ Dim (p .kind) = subst (λ kind. LeastDim kind ≤ Dim (p .kind)) k (r .enough) in omega arith
-
-pub own-most : (p : Place) (a : ℕ) → Ready p → a ≡ Dim (p .kind) → a ≤ 4096
-own-most p a r e = omega (arith, r .most)
-
-pub ruleset own = (own-long, inside-of, own-same, own-enough, own-most)
+-- ---- what a second-order kernel asks: the rest is in hand
+pub two-least : (kind : Kind) (n : ℕ) → kind ≡ SecondOrder n → LeastDim kind ≡ 2
+two-least kind n e = ap LeastDim e

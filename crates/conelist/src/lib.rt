@@ -86,9 +86,9 @@ fn record_refusal(total: usize, c: Cone) -> u8
 {
     let kind = c.kind;
     let n = dim(kind);
-    let no = answers::dimension_refusal(least_dim(kind), n);
-    if no != 0 {
-        return no;
+    let bad = answers::dimension_refusal(least_dim(kind), n);
+    if bad != 0 {
+        return bad;
     }
     if c.start != total {
         return 3;

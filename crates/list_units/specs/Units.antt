@@ -10,11 +10,10 @@ use Rattle.conelist.specs.declared.Kind.the-variants.{Nonnegative, SecondOrder}
 use Rattle.conelist.specs.declared.Place.{Place}
 use Rattle.conelist.specs.Layout.{RefusalAt, Of, With}
 
--- unit shift by the cone's kind: it "adds α everywhere" to a nonnegative one
-unfoldable pub KindShift : Kind → List Float → Float → List Float
-KindShift (Nonnegative n) z α = Translate α z
-KindShift (SecondOrder n) z α = UnitShift z α
+-- "unit shift adds α everywhere" to a nonnegative cone
+unfoldable pub KindUnitShift : Kind → List Float → Float → List Float
+KindUnitShift (Nonnegative n) z α = Translate α z
+KindUnitShift (SecondOrder n) z α = UnitShift z α
 
--- the cone at p
-abbrev pub ConeShift : Place → List Float → Float → Came
-ConeShift p z α = Call (RefusalAt p ((length z, p .entries) ∷ [])) done (z ∷ []) (With p z (KindShift (p .kind) (Of p z) α) ∷ [])
+abbrev pub ScaledUnitShiftAt : Place → List Float → Float → Came
+ScaledUnitShiftAt p z α = Call (RefusalAt p ((length z, p .entries) ∷ [])) done (z ∷ []) (With p z (KindUnitShift (p .kind) (Of p z) α) ∷ [])

@@ -1,36 +1,45 @@
-// The unit shift of one cone of a list (document 01, "Second-order rules" and "Nonnegative rules"; source documents 000 and 001,
-// `scaled_unit_shift`), over the cone's place.
+// The unit shift of one cone of a list (document 01, "Second-order rules" and "Nonnegative rules"; source document 000, lines 114 to 119, and
+// 001, `scaled_unit_shift`), over the cone's place.
 use answers::Answer;
 use conelist::Kind;
 use conelist::Place;
 ghost use mathlib.Core.Path.{_≡_};
 ghost use mathlib.Core.List.{[], _∷_};
 ghost use lib.ListN.{length};
+ghost use Rattle.answers.specs.Refusal.{Fit};
 ghost use Rattle.answers.specs.Outcome.{told};
-ghost use Rattle.conelist.specs.Layout.{Open, With, Of};
-ghost use Rattle.list_units.specs.Units.{KindShift, ConeShift};
+ghost use Rattle.conelist.specs.Layout.{LeastDim, Open, Of, With};
+ghost use Rattle.list_units.specs.Units.{KindUnitShift, ScaledUnitShiftAt};
 
-// On the cone's own range.
-fn shift_in(p: Place, z: &mut [f64], alpha: f64)
+// By the cone's kind, on the cone's own range.
+fn kind_unit_shift(kind: Kind, z: &mut [f64], alpha: f64)
+    requires { ⌜ Fit (LeastDim kind) (length (now z)) [] ⌝ }
+    ensures { λ _. ⌜ now (z .exit) ≡ KindUnitShift kind (now (z .entry)) alpha ⌝ }
+{
+    match kind {
+        Kind::Nonnegative(n) => vecmath::translate(z, alpha),
+        Kind::SecondOrder(n) => soc_residual::scaled_unit_shift(z, alpha),
+    }
+}
+
+fn unit_shift_in(p: Place, z: &mut [f64], alpha: f64)
     requires { ⌜ Open p ((length (now z), p .entries) ∷ []) ⌝ }
-    ensures { λ _. ⌜ now (z .exit) ≡ With p (now (z .entry)) (KindShift (p .kind) (Of p (now (z .entry))) alpha) ⌝ }
+    ensures { λ _. ⌜ now (z .exit) ≡ With p (now (z .entry)) (KindUnitShift (p .kind) (Of p (now (z .entry))) alpha) ⌝ }
 {
     let at = p.start;
     let kind = p.kind;
     let end = at + conelist::dim(kind);
-    match kind {
-        Kind::Nonnegative(n) => vecmath::translate(&mut z[at..end], alpha),
-        Kind::SecondOrder(n) => soc_residual::scaled_unit_shift(&mut z[at..end], alpha),
-    }
+    kind_unit_shift(kind, &mut z[at..end], alpha);
 }
 
 pub fn scaled_unit_shift_at(p: Place, z: &mut [f64], alpha: f64) -> Answer
-    ensures { λ r. ⌜ told r (now (z .exit) ∷ []) ≡ ConeShift p (now (z .entry)) alpha ⌝ }
+    ensures { λ r. ⌜ told r (now (z .exit) ∷ []) ≡ ScaledUnitShiftAt p (now (z .entry)) alpha ⌝ }
 {
-    let no = conelist::refusal(p, z.len() == p.entries);
+    let entries = p.entries;
+    let no = conelist::refusal(p, z.len() == entries);
     if no != 0 {
         return Answer::Refused(no);
     }
-    shift_in(p, z, alpha);
+    unit_shift_in(p, z, alpha);
     Answer::Done
 }

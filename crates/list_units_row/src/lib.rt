@@ -5,10 +5,10 @@ ghost use mathlib.Core.Path.{_≡_};
 ghost use mathlib.Core.List.{[], _∷_};
 ghost use Rattle.answers.specs.Outcome.{told};
 ghost use Rattle.conelist.specs.Layout.{PlaceOf};
-ghost use Rattle.list_units.specs.Units.{ConeShift};
+ghost use Rattle.list_units.specs.Units.{ScaledUnitShiftAt};
 
 pub fn scaled_unit_shift(list: &[Cone], k: usize, z: &mut [f64], alpha: f64) -> Answer
-    ensures { λ r. ⌜ told r (now (z .exit) ∷ []) ≡ ConeShift (PlaceOf (now (list .entry)) k) (now (z .entry)) alpha ⌝ }
+    ensures { λ r. ⌜ told r (now (z .exit) ∷ []) ≡ ScaledUnitShiftAt (PlaceOf (now (list .entry)) k) (now (z .entry)) alpha ⌝ }
 {
     let p = conelist::place_of(list, k);
     list_units::scaled_unit_shift_at(p, z, alpha)

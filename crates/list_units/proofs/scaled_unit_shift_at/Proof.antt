@@ -10,6 +10,6 @@ scaled-unit-shift-at-spec =
     tie.close (tie.spec
     (λ c κs. search needs)
     (λ c. search outcomes)
-    (λ c κs. search open-at)
+    (λ c κs. open-at _ _ _ (c .before .before .refusal .ensures) (c .before .if1 .left))
     (λ c. search needs)
     (λ c. search outcomes))
