@@ -2,7 +2,8 @@
 // asserted of a time; that both sides give the same bits is.
 //
 // Each line is two closures over the same inputs. They run in turns, a millisecond and more each,
-// and of all turns the least time counts: what else the machine does only adds to it.
+// and of all turns the least time counts: what else the machine does only adds to it. Both sides
+// are called through a pointer that the compiler knows nothing of, so neither is fitted to the call.
 #[path = "../compare/random.rs"]
 mod random;
 
@@ -27,22 +28,18 @@ extern "C" {
 
 // ---- the same in Rust
 
-#[inline(never)]
 fn dot(x: &[f64], y: &[f64]) -> f64 {
     std::iter::zip(x, y).fold(0.0, |s, (x, y)| s + x * y)
 }
 
-#[inline(never)]
 fn axpby(y: &mut [f64], a: f64, x: &[f64], b: f64) {
     std::iter::zip(y, x).for_each(|(y, x)| *y = a * x + b * *y);
 }
 
-#[inline(never)]
 fn sqrt(x: f64) -> f64 {
     x.sqrt()
 }
 
-#[inline(never)]
 fn sqrt_all(y: &mut [f64], x: &[f64]) {
     std::iter::zip(y, x).for_each(|(y, x)| *y = x.sqrt());
 }
@@ -65,7 +62,8 @@ fn time<A>(times: u64, f: &mut impl FnMut() -> A) -> f64 {
 }
 
 impl Bench {
-    // One line: `parts` is how many answers a closure gives; the times are those of one.
+    // One line. `parts` is how many calls a closure makes; the times are those of one call, in
+    // nanoseconds, and the ratio is Rattle's to Rust's.
     fn pair<A, B>(
         &self,
         name: &str,
@@ -155,27 +153,26 @@ fn same(x: &[f64], y: &[f64]) -> bool {
 // ---- the lines
 
 fn helpers(bench: &Bench, random: &mut Random) {
+    let (f, g) = black_box((
+        measured_dot as unsafe extern "C" fn(_, _, _, _) -> _,
+        dot as fn(&[f64], &[f64]) -> _,
+    ));
     for n in [8, 64, 4096] {
         let (x, y) = (vector(random, n), vector(random, n));
-        let rattle = || unsafe { measured_dot(black_box(x.as_ptr()), n, black_box(y.as_ptr()), n) };
-        let rust = || dot(black_box(&x), black_box(&y));
+        let rattle = || unsafe { f(black_box(x.as_ptr()), n, black_box(y.as_ptr()), n) };
+        let rust = || g(black_box(&x), black_box(&y));
         assert!(same(&[rattle()], &[rust()]));
         bench.pair("dot", n, 1, rattle, rust);
     }
-    let (a, b) = (0.25, 0.75);
+    let (f, g) = black_box((
+        measured_axpby as unsafe extern "C" fn(_, _, _, _, _, _) -> _,
+        axpby as fn(&mut [f64], _, &[f64], _),
+    ));
+    let (a, b) = black_box((0.25, 0.75));
     for n in [8, 64, 4096] {
         let (x, y) = (vector(random, n), vector(random, n));
-        let rattle = |y: Lent| unsafe {
-            measured_axpby(
-                y.at,
-                n,
-                black_box(a),
-                black_box(x.as_ptr()),
-                n,
-                black_box(b),
-            )
-        };
-        let rust = |y: Lent| axpby(y.slice(), black_box(a), black_box(&x), black_box(b));
+        let rattle = |y: Lent| unsafe { f(y.at, n, a, black_box(x.as_ptr()), n, b) };
+        let rust = |y: Lent| g(y.slice(), a, black_box(&x), b);
         bench.writes("axpby", n, &y, rattle, rust);
     }
 }
@@ -187,21 +184,24 @@ fn roots(bench: &Bench, random: &mut Random) {
     let subnormal: Vec<f64> = (0..4096)
         .map(|k| f64::from_bits(random.bits() >> (12 + k % 52) | 1))
         .collect();
+    let (f, g) = black_box((
+        measured_sqrt as unsafe extern "C" fn(_) -> _,
+        sqrt as fn(f64) -> f64,
+    ));
     for (name, values) in [("sqrt", &normal), ("sqrt of subnormals", &subnormal)] {
-        let rattle = || {
-            values
-                .iter()
-                .map(|x| unsafe { measured_sqrt(*x) })
-                .fold(0.0, f64::max)
-        };
-        let rust = || values.iter().map(|x| sqrt(*x)).fold(0.0, f64::max);
+        let rattle = || values.iter().map(|x| unsafe { f(*x) }).fold(0.0, f64::max);
+        let rust = || values.iter().map(|x| g(*x)).fold(0.0, f64::max);
         assert!(same(&[rattle()], &[rust()]));
         bench.pair(name, 1, values.len(), rattle, rust);
     }
+    let (f, g) = black_box((
+        measured_sqrt_all as unsafe extern "C" fn(_, _, _, _) -> _,
+        sqrt_all as fn(&mut [f64], &[f64]),
+    ));
     for n in [8, 64, 4096] {
         let x = &normal[..n];
-        let rattle = |y: Lent| unsafe { measured_sqrt_all(y.at, n, black_box(x.as_ptr()), n) };
-        let rust = |y: Lent| sqrt_all(y.slice(), black_box(x));
+        let rattle = |y: Lent| unsafe { f(y.at, n, black_box(x.as_ptr()), n) };
+        let rust = |y: Lent| g(y.slice(), black_box(x));
         bench.writes("sqrt entry by entry", n, &vec![0.0; n], rattle, rust);
     }
 }
