@@ -2,12 +2,15 @@
 // asserted of a time; that both sides give the same bits is.
 //
 // Each line is two closures over the same inputs. They run in turns, a millisecond and more each,
-// and of all turns the least time counts: what else the machine does only adds to it. Both sides
-// are called through a pointer that the compiler knows nothing of, so neither is fitted to the call.
+// and of 61 turns the least time counts: what else the machine does only adds to it. That is a run.
+// There are RUNS of them, and a line tells the median time of a call on either side, the median of
+// the runs' ratios, Rattle's to Rust's, and the least and the most of these. Both sides are called
+// through a pointer that the compiler knows nothing of, so neither is fitted to the call.
 #[path = "../compare/random.rs"]
 mod random;
 
 use random::Random;
+use std::cell::RefCell;
 use std::hint::black_box;
 use std::time::Instant;
 
@@ -49,8 +52,42 @@ fn sqrt_all(y: &mut [f64], x: &[f64]) {
 const ROUNDS: usize = 61;
 const ROUND_NS: f64 = 1.5e6;
 
+// A run's two times of a call, in nanoseconds.
+struct Times {
+    rattle: f64,
+    rust: f64,
+}
+
+struct Line {
+    name: String,
+    n: usize,
+    runs: Vec<Times>,
+}
+
 struct Bench {
     words: Vec<String>,
+    lines: RefCell<Vec<Line>>,
+}
+
+fn sorted(runs: &[Times], of: impl Fn(&Times) -> f64) -> Vec<f64> {
+    let mut all: Vec<f64> = runs.iter().map(of).collect();
+    all.sort_by(f64::total_cmp);
+    all
+}
+
+impl Line {
+    fn tell(&self) {
+        let (rattle, rust) = (
+            sorted(&self.runs, |t| t.rattle),
+            sorted(&self.runs, |t| t.rust),
+        );
+        let ratio = sorted(&self.runs, |t| t.rattle / t.rust);
+        let (middle, last) = (ratio.len() / 2, ratio.len() - 1);
+        println!(
+            "{:24} {:5} {:12.2} {:12.2} {:8.3} {:8.3} {:8.3}",
+            self.name, self.n, rattle[middle], rust[middle], ratio[middle], ratio[0], ratio[last]
+        );
+    }
 }
 
 fn time<A>(times: u64, f: &mut impl FnMut() -> A) -> f64 {
@@ -62,8 +99,7 @@ fn time<A>(times: u64, f: &mut impl FnMut() -> A) -> f64 {
 }
 
 impl Bench {
-    // One line. `parts` is how many calls a closure makes; the times are those of one call, in
-    // nanoseconds, and the ratio is Rattle's to Rust's.
+    // One run of one line. `parts` is how many calls a closure makes.
     fn pair<A, B>(
         &self,
         name: &str,
@@ -85,12 +121,22 @@ impl Bench {
             b = b.min(time(times, &mut rust));
         }
         let each = times as f64 * parts as f64;
-        println!(
-            "{name:24} {n:5} {:12.2} {:12.2} {:8.3}",
-            a / each,
-            b / each,
-            a / b
-        );
+        let times = Times {
+            rattle: a / each,
+            rust: b / each,
+        };
+        let mut lines = self.lines.borrow_mut();
+        match lines
+            .iter_mut()
+            .find(|line| line.name == name && line.n == n)
+        {
+            Some(line) => line.runs.push(times),
+            None => lines.push(Line {
+                name: name.to_string(),
+                n,
+                runs: vec![times],
+            }),
+        }
     }
 
     // A call that writes: both write the same memory, from the same contents once to be compared.
@@ -207,14 +253,19 @@ fn roots(bench: &Bench, random: &mut Random) {
 }
 
 fn main() {
+    let runs = std::env::var("RUNS").map_or(5, |runs| runs.parse().expect("RUNS is a number"));
     let bench = Bench {
         words: std::env::args().skip(1).collect(),
+        lines: RefCell::new(vec![]),
     };
-    let mut random = Random(1);
+    for _ in 0..runs {
+        let mut random = Random(1);
+        helpers(&bench, &mut random);
+        roots(&bench, &mut random);
+    }
     println!(
-        "{:24} {:>5} {:>12} {:>12} {:>8}",
-        "name", "n", "rattle_ns", "rust_ns", "ratio"
+        "{:24} {:>5} {:>12} {:>12} {:>8} {:>8} {:>8}",
+        "name", "n", "rattle_ns", "rust_ns", "ratio", "least", "most"
     );
-    helpers(&bench, &mut random);
-    roots(&bench, &mut random);
+    bench.lines.borrow().iter().for_each(Line::tell);
 }
