@@ -15,7 +15,7 @@ use Rattle.nn_step.specs.Step.{NonnegStep, NnStep, NnStepLength}
 abbrev step : List Float → List Float → Float → Ruling Reply
 step x y αmax = NnStep x y αmax .ruling
 
--- a vector of whole numbers, and of their negatives
+-- a whole number, and its negative
 abbrev p : ℕ → Float
 p n = near n 1
 

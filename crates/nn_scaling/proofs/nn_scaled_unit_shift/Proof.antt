@@ -1,6 +1,6 @@
 -- `nn_scaling::nn_scaled_unit_shift` meets its contract. Assumes nothing.
 use borrow.Author.Needs.{needs}
-use Rattle.answers.proofs.Laws.{fit, outcomes}
+use Rattle.answers.proofs.Laws.{outcomes}
 use Rattle.nn_scaling.proofs.nn_scaled_unit_shift.Statement.{statement}
 use Rattle.nn_scaling.proofs.nn_scaled_unit_shift.Tie as tie
 

@@ -1,6 +1,6 @@
 -- `nn_scaling::nn_set_identity_scaling` meets its contract. Assumes nothing.
 use borrow.Author.Needs.{needs}
-use Rattle.answers.proofs.Laws.{fit, outcomes}
+use Rattle.answers.proofs.Laws.{outcomes}
 use Rattle.nn_scaling.proofs.nn_set_identity_scaling.Statement.{statement}
 use Rattle.nn_scaling.proofs.nn_set_identity_scaling.Tie as tie
 

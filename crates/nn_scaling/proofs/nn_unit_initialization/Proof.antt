@@ -1,6 +1,6 @@
 -- `nn_scaling::nn_unit_initialization` meets its contract. Assumes nothing.
 use borrow.Author.Needs.{needs}
-use Rattle.answers.proofs.Laws.{fit, outcomes}
+use Rattle.answers.proofs.Laws.{outcomes}
 use Rattle.nn_scaling.proofs.nn_unit_initialization.Statement.{statement}
 use Rattle.nn_scaling.proofs.nn_unit_initialization.Tie as tie
 
