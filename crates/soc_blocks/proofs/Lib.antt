@@ -1,0 +1,2 @@
+-- `Laws`: of the packed block's columns, of the square matrix, and of the refusals.
+pub mod Laws
