@@ -1,112 +1,23 @@
--- The packed block: its length, a number of it, and the loop that lays its columns behind each other. Assumes nothing.
-use Prim.Native.Nat.{ℕ, zero, suc, _+_, _*_, _/_, _-_, _≤_, _<_}
+-- Laws of the block: its length, the square matrix against the packed numbers, and what a refusal's number says. Assumes nothing.
+use Prim.Native.Nat.{ℕ, zero, suc, _+_, _*_, _/_, _≤_, _<_}
 use native.Mathlib.Omega.{arith}
-use native.Mathlib.Numerals.{add-one}
-use native.Mathlib.Nat.{le-antisymm, eq-or-lt-of-le, le-of-suc-le-suc}
-use mathlib.Core.Logic.{⊎-elim}
+use native.Mathlib.Nat.{eq-or-lt-of-le}
+use mathlib.Core.Logic.{_⊎_, ⊎-elim}
 use mathlib.Core.Path.{_≡_, refl, sym, ap, _∙_}
-use mathlib.Core.Bool.{Bool, true, false, _&&_}
-use mathlib.Core.List.{List, [], _∷_, _++_, append-assoc, append-nil}
+use mathlib.Core.Bool.{Bool, true, false, cond, _&&_, and-false}
+use mathlib.Core.List.{List, [], _∷_}
 use borrow.Author.Tests.{ltb-true, lt-ltb, le-ltb}
 use lib.Dec.{ltb}
-use lib.ListN.{length, take, drop, getD, length-append, length-take, length-drop, List·getD-append}
-use lib.Seq.{take-at, drop-at, drop-drop, drop-length, getD-append-add}
+use lib.ListN.{length, getD, length-drop}
 use lib.Ieee.{Float, nan}
-use Rattle.vecmath.specs.Vector.{Each}
+use Rattle.vecmath.specs.Double.{_⊗_, 𝟎, _!_}
+use Rattle.vecmath.specs.Vector.{Each, Constant}
 use Rattle.vecmath.proofs.Loops.{length-each, each-at}
 use Rattle.answers.specs.Refusal.{_⊳_, BadDimension, Unlike, Alike}
 use Rattle.answers.specs.Outcome.{NoMatrix, SquaredBy}
 use Rattle.answers.proofs.Laws.{clear-both, clear-lengths, alike}
-use Rattle.soc_blocks.specs.Block.{BlockLength, Columns}
-
-module _ (f : ℕ → ℕ → Float) where
-  -- ---- the length
-
-  pub columns-more : (c : ℕ) → length (Columns (suc c) f) ≡ length (Columns c f) + suc c
-  unfolding Columns
-  columns-more c = simp (length-append, length-each)
-
-  pub columns-length : (n : ℕ) → length (Columns n f) ≡ n * (n + 1) / 2
-  unfolding Columns
-  columns-length zero = refl
-  columns-length (suc n) = omega (arith, columns-more n, columns-length n)
-
-  -- all of it lies before the column n
-  columns-before : (c n : ℕ) → c < n → length (Columns c f) + suc c ≤ length (Columns n f)
-  columns-before c zero l = absurd (omega arith)
-  columns-before c (suc n) l =
-      ⊎-elim
-      (λ (e : c ≡ n). rw e (omega (arith, columns-more n)))
-      (λ (l : c < n). omega (arith, columns-more n, columns-before c n l))
-      (eq-or-lt-of-le (le-of-suc-le-suc l))
-
-  -- ---- a number of it
-
-  pub columns-at : (n row col : ℕ) → row ≤ col → col < n → getD (Columns n f) (length (Columns col f) + row) nan ≡ f row col
-  unfolding Columns
-  columns-at zero row col h l = absurd (omega arith)
-  columns-at (suc n) row col h l =
-      ⊎-elim
-      (λ (e : col ≡ n). rw (e, getD-append-add) (each-at nan (suc n) (λ r. f r n) row (omega arith)))
-      (λ (l : col < n). List·getD-append (Columns n f) (Each (suc n) (λ r. f r n)) nan _ (omega (arith, columns-before col n l)) ∙ columns-at n row col h l)
-      (eq-or-lt-of-le (le-of-suc-le-suc l))
-
-  -- ---- y after `col` columns, of n, were laid behind each other up to `at`, where it was y₀
-
-  pub record Laid (n : ℕ) (y₀ : List Float) (at col : ℕ) (y : List Float) : Type 0 where
-    pub within : col ≤ n
-    pub room : length y₀ ≡ length (Columns n f)
-    pub long : length y ≡ length y₀
-    pub start : at ≡ length (Columns col f)
-    pub so-far : y ≡ Columns col f ++ drop at y₀
-
-  module _ {n : ℕ} {y₀ : List Float} where
-    pub lay-start : length y₀ ≡ n * (n + 1) / 2 → Laid n y₀ 0 0 y₀
-    unfolding Columns
-    lay-start e = record { within = omega arith; room = e ∙ sym (columns-length n); long = refl; start = refl; so-far = refl }
-
-    -- the next column's place
-    pub lay-room : {at col : ℕ} {y : List Float} → Laid n y₀ at col y → col < n → at + col + 1 ≤ length y₀
-    lay-room {col = col} h l = omega (arith, columns-before col n l, h .room, h .start)
-
-    -- what is lent of it
-    pub lay-part : {at col : ℕ} {y : List Float} → Laid n y₀ at col y → col < n → length (take (at + col + 1 - at) (drop at y)) ≡ col + 1
-    lay-part h l =
-        let room = lay-room h l in
-        simp (length-take, length-drop) (omega (arith, h .long))
-
-    pub lay-turn : {at col end next : ℕ} {y part z : List Float} → Laid n y₀ at col y → col < n → end ≡ at + col + 1 → next ≡ col + 1 →
-        part ≡ Each (col + 1) (λ row. f row col) → z ≡ take at y ++ (part ++ drop (end - at) (drop at y)) → Laid n y₀ end next z
-    unfolding Columns
-    lay-turn {at} {col} {end} {next} {y} {part} {z} h l e e′ p q =
-        let front : take at y ≡ Columns col f = ap (take at) (h .so-far) ∙ take-at (Columns col f) (drop at y₀) at (sym (h .start)) in
-        let rest : drop at y ≡ drop at y₀ = ap (drop at) (h .so-far) ∙ drop-at (Columns col f) (drop at y₀) at (sym (h .start)) in
-        let on : at + (end - at) ≡ end = omega arith in
-        let laid : z ≡ Columns next f ++ drop end y₀ = rw (q, front, rest, drop-drop, on, p, e′, add-one) (sym (append-assoc (Columns col f) _ _)) in
-        let room = lay-room h l in
-        record {
-          within = omega arith;
-          room = h .room;
-          long = ap length laid ∙ simp (length-append, length-drop) (omega (arith, h .start, columns-more col, ap (λ k. length (Columns k f)) (e′ ∙ add-one col)));
-          start = rw (e′, add-one) (omega (arith, columns-more col, h .start));
-          so-far = laid;
-        }
-
-    pub lay-end : {at col : ℕ} {y : List Float} → Laid n y₀ at col y → n ≤ col → y ≡ Columns n f
-    lay-end {at} {col} h l =
-        let all : col ≡ n = le-antisymm (h .within) l in
-        let at-end : at ≡ length y₀ = h .start ∙ ap (λ k. length (Columns k f)) all ∙ sym (h .room) in
-        h .so-far ∙ rw (at-end, drop-length, all) (append-nil (Columns n f))
-
--- ---- the square matrix
-
-pub both-below : (a b n : ℕ) → ltb a n && ltb b n ≡ true → (a < n) × (b < n)
-both-below a b n e = go (ltb a n) (ltb b n) refl refl e
-  where
-    go : (s t : Bool) → ltb a n ≡ s → ltb b n ≡ t → s && t ≡ true → (a < n) × (b < n)
-    go true true h h′ e = (ltb-true a n h, ltb-true b n h′)
-    go true false h h′ e = let z : _≡_ {A = ℕ} 0 1 = cc in absurd (omega arith)
-    go false t h h′ e = let z : _≡_ {A = ℕ} 0 1 = cc in absurd (omega arith)
+use Rattle.soc_blocks.specs.Block.{BlockLength, SparseHs, DenseEntry, DenseHs, Hs, SquareEntry, SquareHs}
+use Rattle.soc_blocks.proofs.Columns.{columns-length, columns-at}
 
 -- ---- the block's length
 
@@ -117,6 +28,60 @@ sparse-long n h = rw (lt-ltb 4 n h)
 pub dense-long : (n : ℕ) → n ≤ 4 → BlockLength n ≡ n * (n + 1) / 2
 unfolding BlockLength
 dense-long n h = rw (le-ltb 4 n h)
+
+pub hs-long : (w : List Float) (η d : Float) → length (Hs w η d) ≡ BlockLength (length w)
+unfolding Hs SparseHs DenseHs Constant BlockLength
+hs-long w η d = go (ltb 4 (length w)) refl
+  where
+    go : (t : Bool) → ltb 4 (length w) ≡ t → length (Hs w η d) ≡ BlockLength (length w)
+    go true e = rw e (simp (length-drop, length-each) (omega (arith, ltb-true 4 (length w) e)))
+    go false e = rw e (columns-length _ (length w))
+
+-- ---- the square matrix equals the packed block
+
+module _ (w : List Float) (η : Float) where
+  -- row and column of the square matrix
+  abbrev pub SquareAt : ℕ → ℕ → Float
+  SquareAt row col = getD (SquareHs w η) row [] ! col
+
+  square-at : (row col : ℕ) → row < 4 → col < 4 → SquareAt row col ≡ SquareEntry w η row col
+  unfolding SquareHs
+  square-at row col h l = rw (each-at [] 4 (λ row. Each 4 (λ col. SquareEntry w η row col)) row h) (each-at nan 4 (λ col. SquareEntry w η row col) col l)
+
+  -- the packed number of a row and a column
+  pub packed-at : (d : Float) (row col : ℕ) → length w ≤ 4 → row ≤ col → col < length w → Hs w η d ! (col * (col + 1) / 2 + row) ≡ η ⊗ η ⊗ DenseEntry w row col
+  unfolding Hs DenseHs
+  packed-at d row col dense h l = rw (le-ltb 4 (length w) dense) (columns-at _ (length w) row col h l)
+
+  -- it is the matrix's at (row, col), and at (col, row)
+  pub square-is-packed : (d : Float) (row col : ℕ) → length w ≤ 4 → row ≤ col → col < length w → (SquareAt row col ≡ Hs w η d ! (col * (col + 1) / 2 + row)) × (SquareAt col row ≡ Hs w η d ! (col * (col + 1) / 2 + row))
+  unfolding SquareEntry
+  square-is-packed d row col dense h l =
+      let inside : row < length w = omega arith in
+      let picked : cond (ltb row col) (DenseEntry w row col) (DenseEntry w col row) ≡ DenseEntry w row col =
+      ⊎-elim (λ (e : row ≡ col). rw (e, le-ltb col col (omega arith))) (λ (l : row < col). rw (lt-ltb row col l)) (eq-or-lt-of-le h) in
+      let packed = sym (packed-at d row col dense h l) in (
+        square-at row col (omega arith) (omega arith) ∙ rw (lt-ltb row (length w) inside, lt-ltb col (length w) l, picked) packed,
+        square-at col row (omega arith) (omega arith) ∙ rw (lt-ltb col (length w) l, lt-ltb row (length w) inside, le-ltb col row h) packed,
+      )
+
+  -- beyond the dimension it is +0
+  pub beyond-is-zero : (row col : ℕ) → row < 4 → col < 4 → (length w ≤ row) ⊎ (length w ≤ col) → SquareAt row col ≡ 𝟎
+  unfolding SquareEntry
+  beyond-is-zero row col h l out =
+      square-at row col h l ∙ ⊎-elim
+      (λ (o : length w ≤ row). rw (le-ltb row (length w) o))
+      (λ (o : length w ≤ col). rw (le-ltb col (length w) o, and-false (ltb row (length w))))
+      out
+
+-- what a test of both says
+pub both-below : (a b n : ℕ) → ltb a n && ltb b n ≡ true → (a < n) × (b < n)
+both-below a b n e = go (ltb a n) (ltb b n) refl refl e
+  where
+    go : (s t : Bool) → ltb a n ≡ s → ltb b n ≡ t → s && t ≡ true → (a < n) × (b < n)
+    go true true h h′ e = (ltb-true a n h, ltb-true b n h′)
+    go true false h h′ e = let z : _≡_ {A = ℕ} 0 1 = cc in absurd (omega arith)
+    go false t h h′ e = let z : _≡_ {A = ℕ} 0 1 = cc in absurd (omega arith)
 
 -- ---- refusals
 
@@ -133,5 +98,3 @@ square-refused {k = suc k} matrix e h = ap (λ m. SquaredBy m matrix) e
 pub square-given : {n k : ℕ} {rows matrix : List (List Float)} → k ≡ n → k ≡ 0 → rows ≡ matrix → record { number = 0; matrix = rows } ≡ SquaredBy n matrix
 unfolding SquaredBy
 square-given e z g = rw (g, ← e, z)
-
-pub ruleset laying = (lay-start, lay-part, lay-turn, lay-end, arith)

@@ -9,7 +9,6 @@ ghost use Prim.Native.Nat.{_+_, _*_, _/_, _≤_, _<_};
 ghost use lib.ListN.{length};
 ghost use Rattle.vecmath.specs.Double.{_⊗_};
 ghost use Rattle.vecmath.specs.Vector.{Each};
-ghost use Rattle.answers.specs.Refusal.{Fit};
 ghost use Rattle.answers.specs.Outcome.{told, toldSquare, NoMatrix};
 ghost use Rattle.soc_blocks.specs.Block.{BlockLength, SparseHs, DenseEntry, DenseHs, Hs, SquareEntry, SquareHs, SocGetHs, SocSquareHs};
 
@@ -46,6 +45,7 @@ fn column(part: &mut [f64], w: &[f64], eta2: f64, col: usize)
     }
 }
 
+// The upper triangle by columns: (0,0), (0,1), (1,1), (0,2), ..
 fn dense_hs(hs: &mut [f64], w: &[f64], eta: f64)
     requires { ⌜ length (now hs) ≡ length (now w) * (length (now w) + 1) / 2 ⌝ }
     ensures { λ _. ⌜ now (hs .exit) ≡ DenseHs (now (w .entry)) eta ⌝ }
@@ -61,6 +61,7 @@ fn dense_hs(hs: &mut [f64], w: &[f64], eta: f64)
     }
 }
 
+// The diagonal of the sparse form.
 fn sparse_hs(hs: &mut [f64], eta: f64, d: f64)
     requires { ⌜ 1 ≤ length (now hs) ⌝ }
     ensures { λ _. ⌜ now (hs .exit) ≡ SparseHs (length (now (hs .entry))) eta d ⌝ }

@@ -1,9 +1,8 @@
 -- `soc_blocks::dense_hs` meets its contract. Assumes nothing.
-use native.Mathlib.Omega.{arith}
 use borrow.Author.Needs.{needs}
 use Rattle.vecmath.proofs.Loops.{length, _-_, _⊗_}
 use Rattle.soc_blocks.specs.Block.{DenseEntry, DenseHs}
-use Rattle.soc_blocks.proofs.Laws.{Laid, lay-room, laying}
+use Rattle.soc_blocks.proofs.Columns.{Laid, lay-room, laying}
 use Rattle.soc_blocks.proofs.dense_hs.Statement.{statement}
 use Rattle.soc_blocks.proofs.dense_hs.Tie as tie
 
