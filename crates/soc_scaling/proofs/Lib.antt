@@ -1,0 +1,2 @@
+-- `Laws`: the three ends of a scaling, and what the calls keep.
+pub mod Laws
