@@ -13,6 +13,9 @@ expand-spec =
     (λ c κs. let sum = c .before .before .before .before .before .before .before .before .before .before .before .pre .1 in (search needs, (rw sum, rw sum)))
     (λ c. search needs) (λ c. search needs)
     (λ c.
-    let test = c .before .before .before .before .before .before .before .before .before .before .if1 .taken in
-    (rw (c .before .before .before .before .before .before .sparse-u .ensures, test), (rw (c .before .before .sparse-v .ensures, test), rw (test, c .before .before .before .before .before .before .before .before .before .before .before .before .before .before .pre .1))))
-    (λ c. (rw (c .if1 .left), (rw (c .if1 .left), rw (c .if1 .left)))))
+    let last = c .before .before in
+    let first = last .before .before .before .before in
+    let test = first .before .before .before .before in
+    let start = test .before .before .before .before in
+    (rw (first .sparse-u .ensures, test .if1 .taken), (rw (last .sparse-v .ensures, test .if1 .taken), rw (test .if1 .taken, start .pre .1))))
+    (λ c. let left = c .if1 .left in (rw left, (rw left, rw left))))

@@ -10,4 +10,8 @@ normalize-spec =
     tie.close (tie.spec
     (λ c κs. search needs) (λ c κs. search needs) (λ c κs. search needs) (λ c κs. search needs)
     (λ c. search needs)
-    (λ c. (rw (c .before .before .set-first .ensures, c .before .before .before .sqrt .ensures, c .before .before .before .before .before .sumsq .ensures, c .before .before .before .before .before .before .before .before .before .scale .ensures), rw (c .before .before .set-first .ensures) (c .before .before .before .before .before .sumsq .ensures))))
+    (λ c.
+    let stored = c .before .before in
+    let summed = stored .before .before .before in
+    let scaled = summed .before .before .before .before in
+    (rw (stored .set-first .ensures, stored .before .sqrt .ensures, summed .sumsq .ensures, scaled .scale .ensures), rw (stored .set-first .ensures) (summed .sumsq .ensures))))

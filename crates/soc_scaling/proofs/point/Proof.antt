@@ -10,4 +10,9 @@ point-spec =
     tie.close (tie.spec
     (λ c κs. search needs) (λ c κs. search needs) (λ c. search needs) (λ c. search needs)
     (λ c κs. search needs) (λ c κs. search needs) (λ c. search needs)
-    (λ c. rw (c .before .before .axpby .ensures, c .before .before .before .before .before .before .set-first .ensures, c .before .before .before .before .before .before .before .before .before .before .before .before .scale .ensures, c .before .before .before .before .before .before .before .before .before .before .before .before .before .before .before .before .copy-from .ensures)))
+    (λ c.
+    let rest = c .before .before in
+    let first = rest .before .before .before .before in
+    let scaled = first .before .before .before .before .before .before in
+    let copied = scaled .before .before .before .before in
+    rw (rest .axpby .ensures, first .set-first .ensures, scaled .scale .ensures, copied .copy-from .ensures)))

@@ -11,4 +11,9 @@ scaling-point-spec =
     (λ c κs. search needs) (λ c. search needs) (λ c. search needs) (λ c κs. search needs) (λ c. search needs)
     (λ c. search needs) (λ c κs. search needs) (λ c κs. search needs) (λ c κs. search needs)
     (λ c. search needs)
-    (λ c. rw (c .before .before .scale2 .ensures, c .before .before .before .sqrt .ensures, c .before .before .before .before .before .before .before .scale .ensures, c .before .before .before .before .before .before .before .before .before .before .before .before .before .waxpby .ensures, c .before .before .before .before .before .before .before .before .before .before .before .before .before .before .before .before .before .before .before .set-first .ensures)))
+    (λ c.
+    let whole = c .before .before in
+    let rest = whole .before .before .before .before .before in
+    let sum = rest .before .before .before .before .before .before in
+    let stored = sum .before .before .before .before .before .before in
+    rw (whole .scale2 .ensures, whole .before .sqrt .ensures, rest .scale .ensures, sum .waxpby .ensures, stored .set-first .ensures)))

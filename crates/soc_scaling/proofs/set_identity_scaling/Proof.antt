@@ -1,7 +1,5 @@
 -- `soc_scaling::set_identity_scaling` meets its contract. Assumes nothing.
-use native.Mathlib.Omega.{arith}
 use borrow.Author.Needs.{needs}
-use borrow.Author.Tests.{lt-ltb, le-ltb}
 use Rattle.soc_scaling.specs.Scaling.{Identity}
 use Rattle.soc_scaling.proofs.set_identity_scaling.Statement.{statement}
 use Rattle.soc_scaling.proofs.set_identity_scaling.Tie as tie
@@ -13,7 +11,11 @@ set-identity-scaling-spec =
     (λ c κs. search needs) (λ c κs. search needs) (λ c κs. search needs) (λ c. search needs) (λ c. search needs)
     (λ c. search needs)
     (λ c.
-    let start = c .before .before .before .before .before .before .before .before .before .before .before .before .before .before .before .before in
-    rw (c .before .before .fill .ensures, c .before .before .before .before .before .before .leading2 .ensures, c .before .before .before .before .before .before .before .before .before .before .before .leading .ensures, c .before .before .before .before .before .before .before .before .if1 .taken, start .pre .same .0, start .pre .same .1 .0))
+    let of-v = c .before .before in
+    let of-u = of-v .before .before .before .before in
+    let test = of-u .before .before in
+    let of-w = test .before .before .before in
+    let start = of-w .before .before .before .before .before in
+    rw (of-v .fill .ensures, of-u .leading2 .ensures, of-w .leading .ensures, test .if1 .taken, start .pre .same .0, start .pre .same .1 .0))
     (λ c. search needs)
     (λ c. rw (c .before .before .before .leading .ensures, c .if1 .left)))

@@ -9,4 +9,9 @@ unfolding SparseV
 sparse-v-spec =
     tie.close (tie.spec
     (λ c κs. search needs) (λ c κs. search needs) (λ c κs. search needs) (λ c. search needs)
-    (λ c. rw (c .before .before .axpby .ensures, c .before .before .before .before .before .before .set-first .ensures, c .before .before .before .before .before .before .before .before .sqrt .ensures, c .before .before .before .before .before .before .before .before .before .before .before .pre .1 .1, c .before .before .before .before .before .before .before .before .before .before .before .pre .1 .0)))
+    (λ c.
+    let rest = c .before .before in
+    let stored = rest .before .before .before .before in
+    let rooted = stored .before .before in
+    let start = rooted .before .before .before in
+    rw (rest .axpby .ensures, stored .set-first .ensures, rooted .sqrt .ensures, start .pre .1 .1, start .pre .1 .0)))
