@@ -9,11 +9,13 @@ use lib.ListN.{length, length-drop}
 use lib.Ieee.{Float, eq}
 use Rattle.root.specs.Root.{Root}
 use Rattle.vecmath.specs.Double.{_⊘_, 𝟎}
-use Rattle.vecmath.specs.Vector.{Constant, Scale, Axpby}
+use Rattle.vecmath.specs.Vector.{Constant}
 use Rattle.vecmath.proofs.Loops.{length-each}
 use Rattle.answers.specs.Outcome.{truth, Does}
 use Rattle.soc_residual.specs.Residual.{RootScale}
-use Rattle.soc_scaling.specs.Scaling.{Sparse, Stored, Leading, Identity, Point, Normed, Lambda, SparseU, SparseV, SparseD, UpdateScaling}
+use Rattle.soc_terms.specs.Terms.{Point, Normed, Lambda, SparseU, SparseV, SparseD}
+use Rattle.soc_terms.proofs.Laws.{length-point, length-normed, length-lambda, length-sparse-u, length-sparse-v}
+use Rattle.soc_scaling.specs.Scaling.{Sparse, Stored, Leading, Identity, UpdateScaling}
 
 -- ---- the ends of a scaling
 
@@ -57,26 +59,6 @@ module _ (n : ℕ) (some : 1 ≤ n) where
   unfolding Leading
   length-leading a = simp (length-drop, length-constant) (omega arith)
 
-  length-point : (s z : List Float) (σ ζ : Float) → length z ≡ n → length (Point s z σ ζ) ≡ n
-  unfolding Point Axpby
-  length-point s z σ ζ e = simp (length-each, length-drop) (omega arith)
-
-  length-normed : (w : List Float) (ω : Float) → length w ≡ n → length (Normed w ω) ≡ n
-  unfolding Normed Scale
-  length-normed w ω e = simp (length-drop, length-each) (omega arith)
-
-  length-lambda : (s z : List Float) (σ ζ ω : Float) → length s ≡ n → length (Lambda s z σ ζ ω) ≡ n
-  unfolding Lambda Scale Axpby
-  length-lambda s z σ ζ ω e = simp (length-each, length-drop) (omega arith)
-
-  length-sparse-u : (w u : List Float) → length w ≡ n → length (SparseU w u) ≡ n
-  unfolding SparseU Axpby
-  length-sparse-u w u e = simp (length-each, length-drop) (omega arith)
-
-  length-sparse-v : (w v : List Float) → length w ≡ n → length (SparseV w v) ≡ n
-  unfolding SparseV Axpby
-  length-sparse-v w v e = simp (length-each, length-drop) (omega arith)
-
   pub lengths-identity : (w u v : List Float) (d : Float) → length w ≡ n → length u ≡ n → length v ≡ n → map length (Identity w u v d) ≡ n ∷ n ∷ n ∷ 1 ∷ 1 ∷ []
   unfolding Identity
   lengths-identity w u v d of-w of-u of-v = simp (of-w, length-cond, of-u, of-v, length-leading, length-constant, cond-same)
@@ -89,6 +71,6 @@ module _ (n : ℕ) (some : 1 ≤ n) where
       let σ = RootScale s in
       let point = Point s z σ ζ in
       let normed = Normed point (RootScale point) in
-      let of-point = length-point s z σ ζ of-z in
-      let of-normed = length-normed point (RootScale point) of-point in
-      simp (lengths-cond, length-cond, of-w, of-lambda, of-u, of-v, of-point, of-normed, length-lambda s z σ ζ (RootScale point) of-s, length-sparse-u normed u of-normed, length-sparse-v normed v of-normed, cond-same)
+      let of-point = length-point n some s z σ ζ of-z in
+      let of-normed = length-normed n some point (RootScale point) of-point in
+      simp (lengths-cond, length-cond, of-w, of-lambda, of-u, of-v, of-point, of-normed, length-lambda n some s z σ ζ (RootScale point) of-s, length-sparse-u n some normed u of-normed, length-sparse-v n some normed v of-normed, cond-same)

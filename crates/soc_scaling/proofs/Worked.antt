@@ -11,7 +11,8 @@ use Rattle.vecmath.proofs.Examples.{near, minus, Line, _⇒_, Right}
 use Rattle.answers.specs.Refusal.{_⊳_, BadDimension, Unlike}
 use Rattle.answers.specs.Outcome.{done, truth, gives, refuses, Call, Came}
 use Rattle.soc_residual.specs.Residual.{Residual, RootScale}
-use Rattle.soc_scaling.specs.Scaling.{Stored, 1/√2, Leading, Identity, Point, Normed, Lambda, SquareOf, SparseD, SparseU, SparseV, UpdateScaling, SocSetIdentityScaling, SocUpdateScaling}
+use Rattle.soc_terms.specs.Terms.{Point, Normed, Lambda, SquareOf, SparseD, SparseU, SparseV}
+use Rattle.soc_scaling.specs.Scaling.{Stored, 1/√2, Leading, Identity, UpdateScaling, SocSetIdentityScaling, SocUpdateScaling}
 
 -- a, b, b, ..: n + 1 entries
 abbrev led : ℕ → Float → Float → List Float

@@ -1,8 +1,8 @@
--- `soc_scaling::normalize` meets its contract. Assumes nothing.
+-- `soc_terms::normalize` meets its contract. Assumes nothing.
 use borrow.Author.Needs.{needs}
-use Rattle.soc_scaling.specs.Scaling.{Normed}
-use Rattle.soc_scaling.proofs.normalize.Statement.{statement}
-use Rattle.soc_scaling.proofs.normalize.Tie as tie
+use Rattle.soc_terms.specs.Terms.{Normed}
+use Rattle.soc_terms.proofs.normalize.Statement.{statement}
+use Rattle.soc_terms.proofs.normalize.Tie as tie
 
 pub normalize-spec : {M : Type 1} → statement M
 unfolding Normed

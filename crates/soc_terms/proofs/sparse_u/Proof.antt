@@ -1,8 +1,8 @@
--- `soc_scaling::sparse_u` meets its contract. Assumes nothing.
+-- `soc_terms::sparse_u` meets its contract. Assumes nothing.
 use borrow.Author.Needs.{needs}
-use Rattle.soc_scaling.specs.Scaling.{SparseU}
-use Rattle.soc_scaling.proofs.sparse_u.Statement.{statement}
-use Rattle.soc_scaling.proofs.sparse_u.Tie as tie
+use Rattle.soc_terms.specs.Terms.{SparseU}
+use Rattle.soc_terms.proofs.sparse_u.Statement.{statement}
+use Rattle.soc_terms.proofs.sparse_u.Tie as tie
 
 pub sparse-u-spec : {M : Type 1} → statement M
 unfolding SparseU

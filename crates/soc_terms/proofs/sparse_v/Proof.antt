@@ -1,8 +1,8 @@
--- `soc_scaling::sparse_v` meets its contract. Assumes nothing.
+-- `soc_terms::sparse_v` meets its contract. Assumes nothing.
 use borrow.Author.Needs.{needs}
-use Rattle.soc_scaling.specs.Scaling.{SparseV}
-use Rattle.soc_scaling.proofs.sparse_v.Statement.{statement}
-use Rattle.soc_scaling.proofs.sparse_v.Tie as tie
+use Rattle.soc_terms.specs.Terms.{SparseV}
+use Rattle.soc_terms.proofs.sparse_v.Statement.{statement}
+use Rattle.soc_terms.proofs.sparse_v.Tie as tie
 
 pub sparse-v-spec : {M : Type 1} → statement M
 unfolding SparseV

@@ -1,8 +1,8 @@
--- `soc_scaling::expand` meets its contract. Assumes nothing.
+-- `soc_terms::expand` meets its contract. Assumes nothing.
 use borrow.Author.Needs.{needs}
-use Rattle.soc_scaling.specs.Scaling.{SquareOf, SparseD}
-use Rattle.soc_scaling.proofs.expand.Statement.{statement}
-use Rattle.soc_scaling.proofs.expand.Tie as tie
+use Rattle.soc_terms.specs.Terms.{SquareOf, SparseD}
+use Rattle.soc_terms.proofs.expand.Statement.{statement}
+use Rattle.soc_terms.proofs.expand.Tie as tie
 
 pub expand-spec : {M : Type 1} → statement M
 unfolding SquareOf SparseD

@@ -1,8 +1,8 @@
--- `soc_scaling::scaling_point` meets its contract. Assumes nothing.
+-- `soc_terms::scaling_point` meets its contract. Assumes nothing.
 use borrow.Author.Needs.{needs}
-use Rattle.soc_scaling.specs.Scaling.{Lambda}
-use Rattle.soc_scaling.proofs.scaling_point.Statement.{statement}
-use Rattle.soc_scaling.proofs.scaling_point.Tie as tie
+use Rattle.soc_terms.specs.Terms.{Lambda}
+use Rattle.soc_terms.proofs.scaling_point.Statement.{statement}
+use Rattle.soc_terms.proofs.scaling_point.Tie as tie
 
 pub scaling-point-spec : {M : Type 1} → statement M
 unfolding Lambda

@@ -1,8 +1,8 @@
--- `soc_scaling::point` meets its contract. Assumes nothing.
+-- `soc_terms::point` meets its contract. Assumes nothing.
 use borrow.Author.Needs.{needs}
-use Rattle.soc_scaling.specs.Scaling.{Point}
-use Rattle.soc_scaling.proofs.point.Statement.{statement}
-use Rattle.soc_scaling.proofs.point.Tie as tie
+use Rattle.soc_terms.specs.Terms.{Point}
+use Rattle.soc_terms.proofs.point.Statement.{statement}
+use Rattle.soc_terms.proofs.point.Tie as tie
 
 pub point-spec : {M : Type 1} → statement M
 unfolding Point
