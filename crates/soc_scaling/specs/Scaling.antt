@@ -1,0 +1,112 @@
+-- Document 01, "Second-order rules": identity and scaling; source document 000, lines 121 to 211, in order. z₁ is Tail z. Assumes nothing.
+use Prim.Native.Nat.{ℕ}
+use mathlib.Core.Bool.{Bool, true, false, cond, _||_}
+use mathlib.Core.List.{List, [], _∷_}
+use lib.Dec.{ltb}
+use lib.ListN.{length}
+use lib.Ieee.{Float, binary64, ofBits, eq, neg}
+use Rattle.root.specs.Root.{Root}
+use Rattle.vecmath.specs.Double.{_⊕_, _⊖_, _⊗_, _⊘_, 𝟎, 𝟏, 𝟐, ½, _!_}
+use Rattle.vecmath.specs.Vector.{Sumsq, Constant, Scale, Axpby}
+use Rattle.tails.specs.Tail.{Tail}
+use Rattle.answers.specs.Refusal.{Refusal}
+use Rattle.answers.specs.Outcome.{done, truth, Contents, Came, Call, Does, CallDoes}
+use Rattle.soc_residual.specs.Residual.{RootScale}
+
+-- a cone of dimension n is sparse above 4, and else dense
+abbrev pub Sparse : ℕ → Bool
+Sparse n = ltb 4 n
+
+-- what a second-order cone stores: w, lambda, u, v, η, d
+abbrev pub Stored : (w lambda u v : List Float) (η d : Float) → Contents
+Stored w lambda u v η d = w ∷ lambda ∷ u ∷ v ∷ (η ∷ []) ∷ (d ∷ []) ∷ []
+
+-- ---- identity
+
+-- n entries: a, 0, 0, ..
+unfoldable pub Leading : ℕ → Float → List Float
+Leading n a = a ∷ Tail (Constant n 𝟎)
+
+-- 1/√2, as the paper's bits
+abbrev pub 1/√2 : Float
+1/√2 = ofBits binary64 0x3FE6_A09E_667F_3BCD
+
+-- w = (1, 0, ..), η = 1; sparse also d = 0.5, u = (1/√2, 0, ..), v = 0. The contents are w, u, v, η, d
+unfoldable pub Identity : (w u v : List Float) (d : Float) → Contents
+Identity w u v d =
+    let sparse = Sparse (length w) in
+    Leading (length w) 𝟏
+    ∷ cond sparse (Leading (length w) 1/√2) u
+    ∷ cond sparse (Constant (length w) 𝟎) v
+    ∷ (𝟏 ∷ [])
+    ∷ (cond sparse ½ d ∷ [])
+    ∷ []
+
+-- ---- scaling, with σ and ζ the root scales of s and z
+
+-- w before it is normed: s/σ, with z₀/ζ added to the first entry and z₁/ζ taken from the rest
+unfoldable pub Point : (s z : List Float) (σ ζ : Float) → List Float
+Point s z σ ζ =
+    let w = Scale (𝟏 ⊘ σ) s in
+    w ! 0 ⊕ z ! 0 ⊘ ζ ∷ Axpby (neg (𝟏 ⊘ ζ)) (Tail z) 𝟏 (Tail w)
+
+-- w normed by its root scale ω: w/ω, and the first entry then √(1 + w₁·w₁)
+unfoldable pub Normed : (w : List Float) (ω : Float) → List Float
+Normed w ω =
+    let w₁ = Tail (Scale (𝟏 ⊘ ω) w) in
+    Root (𝟏 ⊕ Sumsq w₁) ∷ w₁
+
+-- the scaled vector λ, of γ = ω/2
+unfoldable pub Lambda : (s z : List Float) (σ ζ ω : Float) → List Float
+Lambda s z σ ζ ω =
+    let γ = ½ ⊗ ω in
+    let λ₁ = Axpby ((γ ⊕ z ! 0 ⊘ ζ) ⊘ σ) (Tail s) ((γ ⊕ s ! 0 ⊘ σ) ⊘ ζ) (Tail z) in
+    Scale (Root (σ ⊗ ζ)) (γ ∷ Scale (𝟏 ⊘ (s ! 0 ⊘ σ ⊕ z ! 0 ⊘ ζ ⊕ 𝟐 ⊗ γ)) λ₁)
+
+-- the sparse terms, of the normed w: |w|² and its reciprocal, d, u and v. The old u and v come in times 0
+unfoldable pub SquareOf : List Float → Float
+SquareOf w = w ! 0 ⊗ w ! 0 ⊕ Sumsq (Tail w)
+
+unfoldable pub SparseD : List Float → Float
+SparseD w = ½ ⊗ (𝟏 ⊘ SquareOf w)
+
+unfoldable pub SparseU : (w u : List Float) → List Float
+SparseU w u =
+    let u₀ = Root (SquareOf w ⊖ SparseD w) in
+    u₀ ∷ Axpby (𝟐 ⊗ w ! 0 ⊘ u₀) (Tail w) 𝟎 (Tail u)
+
+unfoldable pub SparseV : (w v : List Float) → List Float
+SparseV w v =
+    let ι = 𝟏 ⊘ SquareOf w in
+    𝟎 ∷ Axpby (Root (𝟐 ⊗ (𝟐 ⊕ ι) ⊘ (𝟐 ⊗ SquareOf w ⊖ ι))) (Tail w) 𝟎 (Tail v)
+
+-- A late false, where the root scale of w is zero: η and w are written, the rest is kept.
+abbrev pub LateFalse : (w lambda u v : List Float) (η d : Float) (w′ : List Float) (η′ : Float) → Does
+LateFalse w lambda u v η d w′ η′ = record { reply = truth false; news = Stored w′ lambda u v η′ d }
+
+-- the answer with what is then stored. An early false, where the scale of z or s is zero, changes nothing
+unfoldable pub UpdateScaling : (s z w lambda u v : List Float) (η d : Float) → Does
+UpdateScaling s z w lambda u v η d =
+    let ζ = RootScale z in
+    let σ = RootScale s in
+    let point = Point s z σ ζ in
+    let ω = RootScale point in
+    let η′ = Root (σ ⊘ ζ) in
+    let w′ = Normed point ω in
+    let sparse = Sparse (length s) in
+    cond (eq ζ 𝟎 || eq σ 𝟎)
+    (record { reply = truth false; news = Stored w lambda u v η d })
+    (cond (eq ω 𝟎)
+    (LateFalse w lambda u v η d point η′)
+    (record { reply = truth true; news = Stored w′ (Lambda s z σ ζ ω) (cond sparse (SparseU w′ u) u) (cond sparse (SparseV w′ v) v) η′ (cond sparse (SparseD w′) d) }))
+
+-- ---- the bare calls
+
+abbrev pub SocSetIdentityScaling : (w u v : List Float) (η d : Float) → Came
+SocSetIdentityScaling w u v η d =
+    Call (Refusal 2 (length w) (length u ∷ length v ∷ [])) done (w ∷ u ∷ v ∷ (η ∷ []) ∷ (d ∷ []) ∷ []) (Identity w u v d)
+
+abbrev pub SocUpdateScaling : (s z w lambda u v : List Float) (η d : Float) → Came
+SocUpdateScaling s z w lambda u v η d =
+    CallDoes (Refusal 2 (length s) (length z ∷ length w ∷ length lambda ∷ length u ∷ length v ∷ []))
+    (Stored w lambda u v η d) (UpdateScaling s z w lambda u v η d)
