@@ -1,0 +1,2 @@
+-- `Laws`: of `Fitted`.
+pub mod Laws

@@ -1,0 +1,36 @@
+-- The nonnegative cone's step (document 01, "Nonnegative rules"; source document 001, step_length). Assumes nothing.
+use mathlib.Core.Bool.{cond}
+use mathlib.Core.List.{List, [], _∷_}
+use lib.ListN.{length}
+use lib.Ieee.{Float, lt, neg}
+use Rattle.extrema.specs.Extrema.{Least}
+use Rattle.answers.specs.Refusal.{_⊳_, Refusal, BadLimit}
+use Rattle.answers.specs.Outcome.{Reply, number, lengths, Came, Call}
+use Rattle.vecmath.specs.Double.{_⊘_, 𝟎, _!_}
+use Rattle.vecmath.specs.Vector.{Fold}
+
+-- ---- the values, over the operation called least
+
+module _ (_⊓_ : Float → Float → Float) where
+  infixl 70 _⊓_
+  -- by one entry: the least of α and −z/dz with dz < 0
+  abbrev pub Shorter : Float → Float → Float → Float
+  Shorter dz z α = cond (lt dz 𝟎) (α ⊓ (neg z ⊘ dz)) α
+
+  -- the step of the point z along the direction dz: the least of αmax and each −zᵢ/dzᵢ with dzᵢ < 0
+  unfoldable pub NonnegStep : List Float → List Float → Float → Float
+  NonnegStep dz z αmax = Fold (length dz) αmax (λ k α. Shorter (dz ! k) (z ! k) α)
+
+  -- the two step lengths, z side and s side
+  abbrev pub NonnegSteps : List Float → List Float → List Float → List Float → Float → Reply
+  NonnegSteps dz ds z s αmax = lengths (NonnegStep dz z αmax) (NonnegStep ds s αmax)
+
+-- ---- the bare calls, with document 01's least, which ignores a NaN ratio
+
+-- the step of the point x along the direction y
+abbrev pub NnStep : List Float → List Float → Float → Came
+NnStep x y αmax = Call (Refusal 0 (length x) (length y ∷ []) ⊳ BadLimit αmax) (number (NonnegStep Least y x αmax)) [] []
+
+abbrev pub NnStepLength : List Float → List Float → List Float → List Float → Float → Came
+NnStepLength dz ds z s αmax =
+    Call (Refusal 0 (length dz) (length ds ∷ length z ∷ length s ∷ []) ⊳ BadLimit αmax) (NonnegSteps Least dz ds z s αmax) [] []

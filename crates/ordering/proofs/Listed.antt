@@ -1,0 +1,116 @@
+-- The least over a list of steps has one value in whatever order they are visited, and where the running least is handed on, over any
+-- operation called least. Assumes nothing.
+use Prim.Native.Nat.{ℕ, zero, suc}
+use mathlib.Core.Path.{_≡_, refl, sym, ap, _∙_}
+use mathlib.Core.Bool.{Bool, true, false, not, cond, false≢true, true≢false, Bool-set}
+use mathlib.Core.List.{List, [], _∷_, _++_, map-append, Perm, Permᴰ·map}
+use mathlib.Core.Logic.{∥∥₁-elim}
+use mathlib.Core.HLevel.{×₃-prop}
+use borrow.Author.Tests.{not-true}
+use lib.Ieee.{Float, nan, inf, fin, isNan, lt, le, eq, ofBits}
+use Rattle.vecmath.specs.Vector.{Each, Fold}
+use Rattle.vecmath.specs.Double.{𝟎, ∞}
+use Rattle.ordering.specs.Upto.{Upto, SameValue, Over, Handed, ListStep}
+use Rattle.ordering.proofs.Order.{nan-is, nan-lt, eq-is, le-is}
+use Rattle.ordering.proofs.Least.{All, Edition, one-value, Limit, bounds, within, handing-on}
+use Rattle.ordering.proofs.Shortens.{UpTo, chain, Shortens, zero-up-to}
+
+-- ---- one value
+
+-- of numbers: they are equal by comparison
+pub by-value : (x y : Float) → isNan y ≡ false → SameValue x y → eq x y ≡ true
+by-value x y v s = eq-is x y (s .0 ∙ v) v ∙ rw (s .1, s .2)
+
+same-value : (low : Bool) (x y : Float) → UpTo low x y → UpTo low y x → SameValue x y
+unfolding Upto
+same-value low x y = go low (isNan x) (isNan y) refl refl
+  where
+    go : (w p q : Bool) → isNan x ≡ p → isNan y ≡ q → cond p (cond q true w) (cond q (not w) (not (lt y x))) ≡ true → cond q (cond p true w) (cond p (not w) (not (lt x y))) ≡ true
+        → (p ≡ q) × (lt x y ≡ false) × (lt y x ≡ false)
+    go w true true u v e f = (refl, rw (nan-is x u, nan-lt), rw (nan-is y v, nan-lt))
+    go true true false u v e f = absurd (false≢true f)
+    go false true false u v e f = absurd (false≢true e)
+    go true false true u v e f = absurd (false≢true e)
+    go false false true u v e f = absurd (false≢true f)
+    go w false false u v e f = (refl, not-true _ f, not-true _ e)
+
+-- between 0 and infinity there is no NaN
+number : (low : Bool) (x : Float) → UpTo low 𝟎 x → UpTo low x ∞ → isNan x ≡ false
+unfolding Upto isNan ofBits
+number low nan e f = go low e f
+  where
+    go : (w : Bool) → not w ≡ true → w ≡ true → true ≡ false
+    go true e f = sym e
+    go false e f = sym f
+number low (inf s) e f = refl
+number low (fin s m k) e f = refl
+
+not-above : (low : Bool) (x y : Float) → isNan x ≡ false → isNan y ≡ false → UpTo low x y → lt y x ≡ false
+unfolding Upto
+not-above low x y u v e = not-true _ (rw (u, v) at e)
+
+limit-up-to : (low : Bool) (l : Float) → isNan l ≡ false → UpTo low l ∞
+unfolding Upto isNan lt
+limit-up-to low nan u = absurd (true≢false u)
+limit-up-to low (inf true) u = refl
+limit-up-to low (inf false) u = refl
+limit-up-to low (fin s m e) u = refl
+
+-- ---- for each edition of least
+
+module _ (low : Bool) (_⊓_ : Float → Float → Float) (ed : Edition (UpTo low) _⊓_) (limit : Float) where
+  -- in whatever order the cones are visited, and at any limit
+  pub any-order : {steps steps′ : List (Float → Float)} → Perm steps steps′ → SameValue (ListStep _⊓_ limit steps) (ListStep _⊓_ limit steps′)
+  any-order p = ∥∥₁-elim p (×₃-prop (Bool-set _ _) (Bool-set _ _) (Bool-set _ _)) (λ d.
+      let v = one-value (UpTo low) _⊓_ ed limit (Permᴰ·map (λ step. step limit) d) in
+      same-value low _ _ (v .0) (v .1))
+
+  -- a limit that is not refused
+  module _ (num : isNan limit ≡ false) (least : lt limit 𝟎 ≡ false) where
+    admitted : Limit (UpTo low) _⊓_ ed 𝟎 ∞ limit
+    admitted = (zero-up-to low limit least (λ e. num), limit-up-to low limit num)
+
+    -- with the running least handed on
+    pub handed-on : (steps : List (Float → Float)) → All (Shortens low _⊓_ ed) steps → eq (Handed _⊓_ limit steps) (ListStep _⊓_ limit steps) ≡ true
+    handed-on steps h =
+        let v = handing-on (UpTo low) _⊓_ ed 𝟎 ∞ limit steps admitted h in
+        let w = within (UpTo low) _⊓_ ed 𝟎 ∞ limit steps admitted h in
+        by-value _ _ (number low _ (w .0) (w .1)) (same-value low _ _ (v .0) (v .1))
+
+    -- a cone's step lies between 0 and its limit
+    pub between : (step : Float → Float) → Shortens low _⊓_ ed step → (le 𝟎 (step limit) ≡ true) × (le (step limit) limit ≡ true)
+    between step h =
+        let b = bounds (UpTo low) _⊓_ ed 𝟎 ∞ step h limit admitted in
+        let u = number low (step limit) (b .0) (chain low (step limit) limit ∞ (b .1) (admitted .1)) in
+        let zero : isNan 𝟎 ≡ false = unfold isNan ofBits in refl in
+        (le-is 𝟎 (step limit) zero u ∙ ap not (not-above low 𝟎 (step limit) zero u (b .0)), le-is (step limit) limit u num ∙ ap not (not-above low (step limit) limit u num (b .1)))
+
+-- ---- as loops: the list's step, and the step with the running least handed on
+
+module _ {A : Type 0} (_⊓_ : A → A → A) where
+  over-snoc : (l : A) (xs : List A) (x : A) → Over _⊓_ l (xs ++ (x ∷ [])) ≡ _⊓_ (Over _⊓_ l xs) x
+  over-snoc l [] x = refl
+  over-snoc l (y ∷ xs) x = over-snoc (_⊓_ l y) xs x
+
+  handed-snoc : (l : A) (ss : List (A → A)) (s : A → A) → Handed _⊓_ l (ss ++ (s ∷ [])) ≡ _⊓_ (Handed _⊓_ l ss) (s (Handed _⊓_ l ss))
+  handed-snoc l [] s = refl
+  handed-snoc l (t ∷ ss) s = handed-snoc (_⊓_ l (t l)) ss s
+
+  pub list-loop : (l : A) (f : ℕ → A → A) (n : ℕ) → ListStep _⊓_ l (Each n f) ≡ Fold n l (λ k a. _⊓_ a (f k l))
+  unfolding Each Fold
+  list-loop l f zero = refl
+  list-loop l f (suc n) = simp (map-append, over-snoc) (ap (λ a. _⊓_ a (f n l)) (list-loop l f n))
+
+  pub handed-loop : (l : A) (f : ℕ → A → A) (n : ℕ) → Handed _⊓_ l (Each n f) ≡ Fold n l (λ k a. _⊓_ a (f k a))
+  unfolding Each Fold
+  handed-loop l f zero = refl
+  handed-loop l f (suc n) = simp handed-snoc (ap (λ a. _⊓_ a (f n a)) (handed-loop l f n))
+
+all-snoc : {A : Type 0} (P : A → Type 0) (xs : List A) (x : A) → All P xs → P x → All P (xs ++ (x ∷ []))
+all-snoc P [] x h p = (p, tt)
+all-snoc P (y ∷ xs) x h p = (h .0, all-snoc P xs x (h .1) p)
+
+pub all-each : {A : Type 0} (P : A → Type 0) (f : ℕ → A) → ((k : ℕ) → P (f k)) → (n : ℕ) → All P (Each n f)
+unfolding Each
+all-each P f h zero = tt
+all-each P f h (suc n) = all-snoc P (Each n f) (f n) (all-each P f h n) (h n)

@@ -1,0 +1,18 @@
+-- Unit shift and unit initialisation keep the length. Assumes nothing.
+use Prim.Native.Nat.{ℕ, _≤_}
+use mathlib.Core.Path.{_≡_}
+use mathlib.Core.List.{List}
+use native.Mathlib.Omega.{arith}
+use lib.ListN.{length, length-drop}
+use lib.Ieee.{Float}
+use Rattle.vecmath.specs.Vector.{Constant}
+use Rattle.vecmath.proofs.Loops.{length-each}
+use Rattle.soc_residual.specs.Residual.{UnitShift, UnitVector}
+
+pub length-unit-shift : (z : List Float) (α : Float) → 2 ≤ length z → length (UnitShift z α) ≡ length z
+unfolding UnitShift
+length-unit-shift z α h = simp (length-drop) (omega arith)
+
+pub length-unit-vector : (n : ℕ) → 2 ≤ n → length (UnitVector n) ≡ n
+unfolding UnitVector UnitShift Constant
+length-unit-vector n h = simp (length-drop, length-each) (omega arith)
