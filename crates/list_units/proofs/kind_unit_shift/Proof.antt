@@ -10,9 +10,7 @@ pub kind-unit-shift-spec : {M : Type 1} → statement M
 unfolding KindUnitShift
 kind-unit-shift-spec =
     tie.close (tie.spec
-    (λ c. search needs) (λ c κs. search needs)
-    (λ c. search needs) (λ c κs. omega (arith, two-least))
+    (λ c. search needs) (λ c κs. search needs) (λ c. search needs) (λ c κs. omega (arith, two-least)) (λ c. search needs)
+    (λ c. rw (c .before .before .before .before .before .kind .given .1, c .before .before .scaled-unit-shift .ensures))
     (λ c. search needs)
-    (λ c. rw (c .before .before .before .before .before .kind .given .1, c .before .before .translate .ensures))
-    (λ c. search needs)
-    (λ c. rw (c .before .before .before .before .before .kind2 .given .1, c .before .before .scaled-unit-shift .ensures)))
+    (λ c. rw (c .before .before .before .before .before .kind2 .given .1, c .before .before .scaled-unit-shift2 .ensures)))
