@@ -11,7 +11,7 @@ pub use mathlib.Core.Path.{refl}
 pub use mathlib.Core.Bool.{Bool, true, false}
 pub use mathlib.Core.List.{[], _∷_}
 pub use Rattle.conelist.specs.Layout.{PlaceOf}
-use Prim.Native.Nat.{ℕ, _<_, _^_}
+use Prim.Native.Nat.{ℕ}
 use lib.Dec.{T as Holds}
 use lib.Ieee.{binary64}
 use lib.ListN.{length}
@@ -33,12 +33,11 @@ use types.Kit.{Given, ‵, raw, _⊛_, _$_, _∵_, !, qed, by, move, keep, use1,
 use denote.Laws.{Is, Typed}
 use denote.Memory.{lone}
 use denote.RattleType.{RattleType, Denots, Valss, owns, flat}
-use denote.Plain.{uint-makes}
 use denote.Ref.{RefT, ShrRef, MutRef}
 use denote.Builtin.{usize, f64}
 use denote.Signature.{typeAt, typesAt}
 use denote.Slice.{sliceVal, ShrSlice, MutSlice}
-use denote.Steps.{owned, nothing, heard}
+use denote.Steps.{nothing, heard}
 use denote.Struct.Laws as LL
 use denote.Triple.Clauses.{Ended, Clauses, Lasts, lasts, atExit, closing}
 use denote.Triple.Entry.{Args, Vals, Res, alive}

@@ -9,12 +9,11 @@ use borrow.Author.Tests.{ltb-true, leb-true, leb-false, le-leb, lt-leb, eqb-true
 use lib.Dec.{ltb, leb, eqb}
 use lib.ListN.{take, drop}
 use lib.Ieee.{Float}
-use Rattle.answers.specs.Refusal.{_⊳_}
 use Rattle.answers.proofs.Laws.{clear-both, clear-lengths}
 use Rattle.conelist.specs.declared.Kind.{Kind}
 use Rattle.conelist.specs.declared.Kind.the-variants.{SecondOrder}
 use Rattle.conelist.specs.declared.Place.{Place}
-use Rattle.conelist.specs.Layout.{Dim, LeastDim, BlockDim, Misplaced, Spot, FitAnd, AllFit, RefusalAt, Ready, Fits, Open, Part, Put}
+use Rattle.conelist.specs.Layout.{Dim, LeastDim, BlockDim, Misplaced, FitAnd, AllFit, RefusalAt, Ready, Fits, Open, Part, Put}
 
 -- ---- the tests of `within`
 

@@ -1,7 +1,7 @@
 -- What the tests of a record say, and each case of a step of the walk. Assumes nothing.
 use Prim.Native.Nat.{ℕ, zero, suc, _+_, _-_, _*_, _/_, _≤_, _<_, _^_}
 use native.Mathlib.Omega.{arith}
-use mathlib.Core.Path.{_≡_, refl, sym, ap, _∙_}
+use mathlib.Core.Path.{_≡_, refl, sym, _∙_}
 use mathlib.Core.Bool.{Bool, true, false, cond}
 use borrow.Author.Tests.{ltb-false, eqb-true, lt-ltb, le-ltb, eq-eqb, ne-eqb}
 use lib.Dec.{ltb, eqb}
@@ -12,7 +12,7 @@ use Rattle.conelist.specs.declared.Kind.the-variants.{Nonnegative, Secon
 use Rattle.conelist.specs.declared.Cone.{Cone}
 use Rattle.conelist.specs.declared.Place.{Place}
 use Rattle.conelist.specs.Layout.{Dim, LeastDim, BlockDim, BadRecord, Alone, Found}
-use Rattle.conelist.specs.Walk.{Opening, Seen, StepOf, Closing, Going}
+use Rattle.conelist.specs.Walk.{Seen, StepOf, Closing, Going}
 
 -- ---- a block
 
@@ -87,11 +87,7 @@ module _ (total : ℕ) (c : Cone) (least n no : ℕ) (l : least ≡ LeastDim (c 
       let d = clear-dimension least n (sym f ∙ z) in
       rw (same, z, eq-eqb (c .start) total h, le-ltb 65536 (total + Dim (c .kind)) (omega arith))
 
-  -- what the last test subtracts
-  pub dimension-fits : no ≡ 0 → n ≤ 65536
-  dimension-fits z = let d = clear-dimension least n (sym f ∙ z) in omega arith
-
-pub ruleset records = (bad-dimension, bad-start, bad-total, not-bad, dimension-fits)
+pub ruleset records = (bad-dimension, bad-start, bad-total, not-bad)
 
 -- ---- a step of the walk, case by case
 

@@ -2,10 +2,10 @@
 use Prim.Native.Nat.{ℕ, zero, suc, _+_, _*_, _≤_, _<_}
 use native.Mathlib.Omega.{arith}
 use native.Mathlib.Nat.{add-zero, zero-add}
-use mathlib.Core.Path.{_≡_, refl, sym, ap, _∙_}
+use mathlib.Core.Path.{_≡_, refl, ap, _∙_}
 use mathlib.Core.Bool.{Bool, true, false, cond}
 use mathlib.Core.List.{List, [], _∷_}
-use borrow.Author.Tests.{ltb-true, ltb-false, lt-ltb, le-ltb, eq-eqb, ne-eqb}
+use borrow.Author.Tests.{ltb-true, ltb-false, eq-eqb, ne-eqb}
 use lib.Dec.{ltb, eqb}
 use lib.ListN.{length}
 use Rattle.answers.specs.Refusal.{_⊳_}
@@ -14,8 +14,8 @@ use Rattle.conelist.specs.declared.Kind.{Kind}
 use Rattle.conelist.specs.declared.Kind.the-variants.{Nonnegative}
 use Rattle.conelist.specs.declared.Cone.{Cone}
 use Rattle.conelist.specs.declared.Place.{Place}
-use Rattle.conelist.specs.Layout.{Dim, BlockDim, KindAt, Before, BadRecord, BadRecords, BadPlace, Alone, Found, Row, PlaceOf}
-use Rattle.conelist.specs.Walk.{Opening, Seen, StepOf, FoldFrom, Closing, Going}
+use Rattle.conelist.specs.Layout.{Dim, BlockDim, KindAt, Before, BadRecord, BadRecords, Alone, Found, PlaceOf}
+use Rattle.conelist.specs.Walk.{Opening, Seen, StepOf, FoldFrom, Closing}
 use Rattle.conelist.proofs.Records.{good, block-most}
 
 -- ---- its sums stay small: behind i records

@@ -3,7 +3,6 @@ use Prim.Native.Nat.{ℕ, _+_, _*_, _≤_, _<_, _^_}
 use mathlib.Core.Bool.{cond}
 use mathlib.Core.List.{List, [], _∷_}
 use lib.Dec.{ltb, eqb}
-use lib.ListN.{length}
 use Rattle.conelist.specs.declared.Kind.the-variants.{Nonnegative}
 use Rattle.conelist.specs.declared.Cone.{Cone}
 use Rattle.conelist.specs.declared.Place.{Place}

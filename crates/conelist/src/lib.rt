@@ -1,6 +1,5 @@
 // The list of cones (document 01, "The list and its buffers" and "Refusal numbers"): its records, and where a cone of it lies. Ported from
 // nothing: the crate has no list of its own, and its cones own their buffers.
-
 ghost use mathlib.Core.Path.{_≡_};
 ghost use Prim.Native.Nat.{_+_};
 ghost use lib.Dec.{leb};

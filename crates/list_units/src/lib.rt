@@ -1,5 +1,5 @@
-// Margins, unit shift and unit initialisation of one cone of a list (document 01, "Second-order rules" and "Nonnegative rules"; source
-// documents 000, lines 104 to 119, and 001), over the cone's place. For each: by the cone's kind, on the cone's own ranges, and the call.
+// Margins, unit shift and unit initialisation of one cone of a list (document 01, "Second-order rules" and "Nonnegative rules"; source documents
+// 000, lines 104 to 119, and 001, lines 58 to 71), over the cone's place. For each: by the cone's kind, on the cone's own ranges, and the call.
 use answers::Answer;
 use answers::Margins;
 use conelist::Kind;
