@@ -13,7 +13,8 @@ use Rattle.answers.specs.declared.Standing.the-variants.{Mirrored}
 use Rattle.answers.specs.Refusal.{_⊳_, BadDimension, Unlike, BadLimit}
 use Rattle.answers.specs.Outcome.{Reply, number, truth, stands, gives, Contents, Came, Call}
 use Rattle.soc_residual.specs.Residual.{Residual, RootScale, SocResidual}
-use Rattle.soc_scaling.specs.Scaling.{Stored, Point, Normed, Lambda, UpdateScaling, SocUpdateScaling}
+use Rattle.soc_terms.specs.Terms.{Point, Normed, Lambda}
+use Rattle.soc_scaling.specs.Scaling.{Stored, UpdateScaling, SocUpdateScaling}
 use Rattle.soc_step.specs.Step.{Forward, Turn, Lowered, ZeroCurvature, Roots, Branches, SocStepBy, SocStep}
 use Rattle.nn_step.specs.Step.{NonnegStep, NnStep}
 use Rattle.standing.specs.Standing.{SocStanding, SocStands}

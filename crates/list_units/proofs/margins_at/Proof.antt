@@ -1,8 +1,7 @@
 -- `list_units::margins_at` meets its contract. Assumes nothing.
 use borrow.Author.Needs.{needs}
-use Rattle.answers.proofs.Laws.{outcomes}
+use Rattle.answers.proofs.Laws.{outcomes, answers-as}
 use Rattle.conelist.proofs.Placed.{open-at}
-use Rattle.nn_scaling.proofs.Laws.{answers-as}
 use Rattle.list_units.proofs.margins_at.Statement.{statement}
 use Rattle.list_units.proofs.margins_at.Tie as tie
 

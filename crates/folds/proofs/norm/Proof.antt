@@ -1,7 +1,7 @@
--- `vecmath::norm` meets its contract. Assumes nothing.
+-- `folds::norm` meets its contract. Assumes nothing.
 use borrow.Author.Needs.{needs}
-use Rattle.vecmath.proofs.norm.Statement.{statement}
-use Rattle.vecmath.proofs.norm.Tie as tie
+use Rattle.folds.proofs.norm.Statement.{statement}
+use Rattle.folds.proofs.norm.Tie as tie
 
 pub norm-spec : {M : Type 1} → statement M
 norm-spec =

@@ -1,7 +1,7 @@
--- `vecmath::norm_shifted` meets its contract. Assumes nothing.
+-- `folds::norm_shifted` meets its contract. Assumes nothing.
 use borrow.Author.Needs.{needs}
-use Rattle.vecmath.proofs.norm_shifted.Statement.{statement}
-use Rattle.vecmath.proofs.norm_shifted.Tie as tie
+use Rattle.folds.proofs.norm_shifted.Statement.{statement}
+use Rattle.folds.proofs.norm_shifted.Tie as tie
 
 pub norm-shifted-spec : {M : Type 1} → statement M
 norm-shifted-spec =

@@ -1,10 +1,10 @@
--- `vecmath::minimum` meets its contract. Assumes nothing.
+-- `folds::minimum` meets its contract. Assumes nothing.
 use lib.Ieee.{div, ofBits}
 use Rattle.extrema.specs.Extrema.{Least}
 use Rattle.vecmath.specs.Vector.{Minimum}
 use Rattle.vecmath.proofs.Loops.{Folded, loops, length, _-_, ∞, _!_}
-use Rattle.vecmath.proofs.minimum.Statement.{statement}
-use Rattle.vecmath.proofs.minimum.Tie as tie
+use Rattle.folds.proofs.minimum.Statement.{statement}
+use Rattle.folds.proofs.minimum.Tie as tie
 
 pub minimum-spec : {M : Type 1} → statement M
 unfolding Minimum div ofBits

@@ -1,9 +1,9 @@
--- `vecmath::positives` meets its contract. Assumes nothing.
+-- `folds::positives` meets its contract. Assumes nothing.
 use Rattle.extrema.specs.Extrema.{Greatest}
 use Rattle.vecmath.specs.Vector.{Positives}
 use Rattle.vecmath.proofs.Loops.{Folded, loops, length, _-_, _⊕_, 𝟎, _!_}
-use Rattle.vecmath.proofs.positives.Statement.{statement}
-use Rattle.vecmath.proofs.positives.Tie as tie
+use Rattle.folds.proofs.positives.Statement.{statement}
+use Rattle.folds.proofs.positives.Tie as tie
 
 pub positives-spec : {M : Type 1} → statement M
 unfolding Positives

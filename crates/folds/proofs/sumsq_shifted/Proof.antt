@@ -1,8 +1,8 @@
--- `vecmath::sumsq_shifted` meets its contract. Assumes nothing.
+-- `folds::sumsq_shifted` meets its contract. Assumes nothing.
 use Rattle.vecmath.specs.Vector.{Shifted}
 use Rattle.vecmath.proofs.Loops.{Folded, loops, fold-end, sumsq-each, length, _-_, _⊕_, _⊗_, 𝟎, _!_}
-use Rattle.vecmath.proofs.sumsq_shifted.Statement.{statement}
-use Rattle.vecmath.proofs.sumsq_shifted.Tie as tie
+use Rattle.folds.proofs.sumsq_shifted.Statement.{statement}
+use Rattle.folds.proofs.sumsq_shifted.Tie as tie
 
 pub sumsq-shifted-spec : {M : Type 1} → statement M
 unfolding Shifted
