@@ -7,7 +7,7 @@ use Rattle.answers.specs.declared.Margins.{Margins}
 use Rattle.answers.specs.Outcome.{Contents, told, toldMargins}
 use Rattle.answers.proofs.Unique.{one-answer, one-margins}
 use Rattle.conelist.specs.declared.Place.{Place}
-use Rattle.list_units.specs.Units.{MarginsAt, ScaledUnitShiftAt, UnitInitializationAt}
+use Rattle.conecalls.specs.Calls.{MarginsAt, ScaledUnitShiftAt, UnitInitializationAt}
 
 module _ (p : Place) where
   pub margins-at : {r r′ : Margins} (z : List Float) → toldMargins r ≡ MarginsAt p z → toldMargins r′ ≡ MarginsAt p z → r ≡ r′

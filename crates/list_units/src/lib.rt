@@ -10,7 +10,8 @@ ghost use lib.ListN.{length};
 ghost use Rattle.answers.specs.Refusal.{Fit};
 ghost use Rattle.answers.specs.Outcome.{gives, ofMargins, told, toldMargins};
 ghost use Rattle.conelist.specs.Layout.{LeastDim, Open, Of, With};
-ghost use Rattle.list_units.specs.Units.{KindMargins, KindUnitShift, KindUnit, MarginsAt, ScaledUnitShiftAt, UnitInitializationAt};
+ghost use Rattle.conecalls.specs.Kinds.{KindMargins, KindUnitShift, KindUnit};
+ghost use Rattle.conecalls.specs.Calls.{MarginsAt, ScaledUnitShiftAt, UnitInitializationAt};
 
 // ---- margins
 

@@ -6,7 +6,7 @@ ghost use mathlib.Core.Path.{_≡_};
 ghost use mathlib.Core.List.{[], _∷_};
 ghost use Rattle.answers.specs.Outcome.{told, toldMargins};
 ghost use Rattle.conelist.specs.Layout.{PlaceOf};
-ghost use Rattle.list_units.specs.Units.{MarginsAt, ScaledUnitShiftAt, UnitInitializationAt};
+ghost use Rattle.conecalls.specs.Calls.{MarginsAt, ScaledUnitShiftAt, UnitInitializationAt};
 
 pub fn margins(list: &[Cone], k: usize, z: &[f64]) -> Margins
     ensures { λ r. ⌜ toldMargins r ≡ MarginsAt (PlaceOf (now (list .entry)) k) (now (z .entry)) ⌝ }

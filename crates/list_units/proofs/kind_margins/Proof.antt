@@ -2,7 +2,7 @@
 use native.Mathlib.Omega.{arith}
 use borrow.Author.Needs.{needs}
 use Rattle.conelist.proofs.Placed.{two-least}
-use Rattle.list_units.specs.Units.{KindMargins}
+use Rattle.conecalls.specs.Kinds.{KindMargins}
 use Rattle.list_units.proofs.kind_margins.Statement.{statement}
 use Rattle.list_units.proofs.kind_margins.Tie as tie
 
