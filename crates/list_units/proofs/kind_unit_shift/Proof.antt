@@ -1,0 +1,16 @@
+-- `list_units::kind_unit_shift` meets its contract. Assumes nothing.
+use native.Mathlib.Omega.{arith}
+use borrow.Author.Needs.{needs}
+use Rattle.conelist.proofs.Placed.{two-least}
+use Rattle.conecalls.specs.Kinds.{KindUnitShift}
+use Rattle.list_units.proofs.kind_unit_shift.Statement.{statement}
+use Rattle.list_units.proofs.kind_unit_shift.Tie as tie
+
+pub kind-unit-shift-spec : {M : Type 1} → statement M
+unfolding KindUnitShift
+kind-unit-shift-spec =
+    tie.close (tie.spec
+    (λ c. search needs) (λ c κs. search needs) (λ c. search needs) (λ c κs. omega (arith, two-least)) (λ c. search needs)
+    (λ c. rw (c .before .before .before .before .before .kind .given .1, c .before .before .scaled-unit-shift .ensures))
+    (λ c. search needs)
+    (λ c. rw (c .before .before .before .before .before .kind2 .given .1, c .before .before .scaled-unit-shift2 .ensures)))
