@@ -1,17 +1,18 @@
--- Document 01, "Second-order rules": identity and scaling; source document 000, lines 121 to 211, in order. z₁ is Tail z. Assumes nothing.
+-- Document 01, "Second-order rules": identity and scaling; source document 000, lines 121 to 211, in order. Assumes nothing.
 use Prim.Native.Nat.{ℕ}
 use mathlib.Core.Bool.{Bool, true, false, cond, _||_}
 use mathlib.Core.List.{List, [], _∷_}
 use lib.Dec.{ltb}
 use lib.ListN.{length}
-use lib.Ieee.{Float, binary64, ofBits, eq, neg}
+use lib.Ieee.{Float, binary64, ofBits, eq}
 use Rattle.root.specs.Root.{Root}
-use Rattle.vecmath.specs.Double.{_⊕_, _⊖_, _⊗_, _⊘_, 𝟎, 𝟏, 𝟐, ½, _!_}
-use Rattle.vecmath.specs.Vector.{Sumsq, Constant, Scale, Axpby}
+use Rattle.vecmath.specs.Double.{_⊘_, 𝟎, 𝟏, ½}
+use Rattle.vecmath.specs.Vector.{Constant}
 use Rattle.tails.specs.Tail.{Tail}
 use Rattle.answers.specs.Refusal.{Refusal}
 use Rattle.answers.specs.Outcome.{done, truth, Contents, Came, Call, Does, CallDoes}
 use Rattle.soc_residual.specs.Residual.{RootScale}
+use Rattle.soc_terms.specs.Terms.{Point, Normed, Lambda, SparseD, SparseU, SparseV}
 
 -- a cone of dimension n is sparse above 4, and else dense
 abbrev pub Sparse : ℕ → Bool
@@ -42,43 +43,7 @@ Identity w u v d =
     ∷ (cond sparse ½ d ∷ [])
     ∷ []
 
--- ---- scaling, with σ and ζ the root scales of s and z
-
--- w before it is normed: s/σ, with z₀/ζ added to the first entry and z₁/ζ taken from the rest
-unfoldable pub Point : (s z : List Float) (σ ζ : Float) → List Float
-Point s z σ ζ =
-    let w = Scale (𝟏 ⊘ σ) s in
-    w ! 0 ⊕ z ! 0 ⊘ ζ ∷ Axpby (neg (𝟏 ⊘ ζ)) (Tail z) 𝟏 (Tail w)
-
--- w normed by its root scale ω: w/ω, and the first entry then √(1 + w₁·w₁)
-unfoldable pub Normed : (w : List Float) (ω : Float) → List Float
-Normed w ω =
-    let w₁ = Tail (Scale (𝟏 ⊘ ω) w) in
-    Root (𝟏 ⊕ Sumsq w₁) ∷ w₁
-
--- the scaled vector λ, of γ = ω/2
-unfoldable pub Lambda : (s z : List Float) (σ ζ ω : Float) → List Float
-Lambda s z σ ζ ω =
-    let γ = ½ ⊗ ω in
-    let λ₁ = Axpby ((γ ⊕ z ! 0 ⊘ ζ) ⊘ σ) (Tail s) ((γ ⊕ s ! 0 ⊘ σ) ⊘ ζ) (Tail z) in
-    Scale (Root (σ ⊗ ζ)) (γ ∷ Scale (𝟏 ⊘ (s ! 0 ⊘ σ ⊕ z ! 0 ⊘ ζ ⊕ 𝟐 ⊗ γ)) λ₁)
-
--- the sparse terms, of the normed w: |w|² and its reciprocal, d, u and v. The old u and v come in times 0
-unfoldable pub SquareOf : List Float → Float
-SquareOf w = w ! 0 ⊗ w ! 0 ⊕ Sumsq (Tail w)
-
-unfoldable pub SparseD : List Float → Float
-SparseD w = ½ ⊗ (𝟏 ⊘ SquareOf w)
-
-unfoldable pub SparseU : (w u : List Float) → List Float
-SparseU w u =
-    let u₀ = Root (SquareOf w ⊖ SparseD w) in
-    u₀ ∷ Axpby (𝟐 ⊗ w ! 0 ⊘ u₀) (Tail w) 𝟎 (Tail u)
-
-unfoldable pub SparseV : (w v : List Float) → List Float
-SparseV w v =
-    let ι = 𝟏 ⊘ SquareOf w in
-    𝟎 ∷ Axpby (Root (𝟐 ⊗ (𝟐 ⊕ ι) ⊘ (𝟐 ⊗ SquareOf w ⊖ ι))) (Tail w) 𝟎 (Tail v)
+-- ---- scaling, with ζ, σ and ω the root scales of z, s and w; w, lambda and the sparse terms are of soc_terms
 
 -- A late false, where the root scale of w is zero: η and w are written, the rest is kept.
 abbrev pub LateFalse : (w lambda u v : List Float) (η d : Float) (w′ : List Float) (η′ : Float) → Does

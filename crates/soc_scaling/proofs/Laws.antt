@@ -1,0 +1,76 @@
+-- The three ends of a scaling, from what its steps computed; and that what these calls write has its slice's length, for every n.
+-- Assumes nothing.
+use Prim.Native.Nat.{ℕ, _≤_}
+use native.Mathlib.Omega.{arith}
+use mathlib.Core.Path.{_≡_, refl}
+use mathlib.Core.Bool.{Bool, true, false, cond, _||_}
+use mathlib.Core.List.{List, [], _∷_, map}
+use lib.ListN.{length, length-drop}
+use lib.Ieee.{Float, eq}
+use Rattle.root.specs.Root.{Root}
+use Rattle.vecmath.specs.Double.{_⊘_, 𝟎}
+use Rattle.vecmath.specs.Vector.{Constant}
+use Rattle.vecmath.proofs.Loops.{length-each}
+use Rattle.answers.specs.Outcome.{truth, Does}
+use Rattle.soc_residual.specs.Residual.{RootScale}
+use Rattle.soc_terms.specs.Terms.{Point, Normed, Lambda, SparseU, SparseV, SparseD}
+use Rattle.soc_terms.proofs.Laws.{length-point, length-normed, length-lambda, length-sparse-u, length-sparse-v}
+use Rattle.soc_scaling.specs.Scaling.{Sparse, Stored, Leading, Identity, UpdateScaling}
+
+-- ---- the ends of a scaling
+
+module _ (s z w lambda u v : List Float) (η d : Float) {ζ σ : Float} (of-z : ζ ≡ RootScale z) (of-s : σ ≡ RootScale s) where
+  pub early : (eq ζ 𝟎 || eq σ 𝟎) ≡ true → record { reply = truth false; news = Stored w lambda u v η d } ≡ UpdateScaling s z w lambda u v η d
+  unfolding UpdateScaling
+  early test = rw (← of-z, ← of-s, test)
+
+  module _ (test : (eq ζ 𝟎 || eq σ 𝟎) ≡ false) {η′ ω : Float} {w′ : List Float} (of-η : η′ ≡ Root (σ ⊘ ζ)) (of-w : w′ ≡ Point s z σ ζ) (of-ω : ω ≡ RootScale w′) where
+    pub late : eq ω 𝟎 ≡ true → record { reply = truth false; news = Stored w′ lambda u v η′ d } ≡ UpdateScaling s z w lambda u v η d
+    unfolding UpdateScaling
+    late test′ = rw (← of-z, ← of-s, test, ← of-w, ← of-ω, test′, of-η)
+
+    pub scaled : {w″ lambda′ u′ v′ : List Float} {d′ : Float} → eq ω 𝟎 ≡ false → w″ ≡ Normed w′ ω → lambda′ ≡ Lambda s z σ ζ ω
+        → u′ ≡ cond (Sparse (length s)) (SparseU w″ u) u → v′ ≡ cond (Sparse (length s)) (SparseV w″ v) v → d′ ≡ cond (Sparse (length s)) (SparseD w″) d
+        → record { reply = truth true; news = Stored w″ lambda′ u′ v′ η′ d′ } ≡ UpdateScaling s z w lambda u v η d
+    unfolding UpdateScaling
+    scaled test′ of-w″ of-lambda of-u of-v of-d = rw (← of-z, ← of-s, test, ← of-w, ← of-ω, test′, of-η, of-u, of-v, of-d, of-lambda, of-w″)
+
+-- ---- lengths
+
+length-constant : (n : ℕ) (a : Float) → length (Constant n a) ≡ n
+unfolding Constant
+length-constant n a = length-each n _
+
+-- of one of two
+length-cond : (t : Bool) (x y : List Float) → length (cond t x y) ≡ cond t (length x) (length y)
+length-cond true x y = refl
+length-cond false x y = refl
+
+lengths-cond : (t : Bool) (x y : Does) → map length (cond t x y .news) ≡ cond t (map length (x .news)) (map length (y .news))
+lengths-cond true x y = refl
+lengths-cond false x y = refl
+
+cond-same : {A : Type 0} (t : Bool) (x : A) → cond t x x ≡ x
+cond-same true x = refl
+cond-same false x = refl
+
+module _ (n : ℕ) (some : 1 ≤ n) where
+  length-leading : (a : Float) → length (Leading n a) ≡ n
+  unfolding Leading
+  length-leading a = simp (length-drop, length-constant) (omega arith)
+
+  pub lengths-identity : (w u v : List Float) (d : Float) → length w ≡ n → length u ≡ n → length v ≡ n → map length (Identity w u v d) ≡ n ∷ n ∷ n ∷ 1 ∷ 1 ∷ []
+  unfolding Identity
+  lengths-identity w u v d of-w of-u of-v = simp (of-w, length-cond, of-u, of-v, length-leading, length-constant, cond-same)
+
+  pub lengths-update-scaling : (s z w lambda u v : List Float) (η d : Float) → length s ≡ n → length z ≡ n → length w ≡ n → length lambda ≡ n → length u ≡ n → length v ≡ n
+      → map length (UpdateScaling s z w lambda u v η d .news) ≡ n ∷ n ∷ n ∷ n ∷ 1 ∷ 1 ∷ []
+  unfolding UpdateScaling
+  lengths-update-scaling s z w lambda u v η d of-s of-z of-w of-lambda of-u of-v =
+      let ζ = RootScale z in
+      let σ = RootScale s in
+      let point = Point s z σ ζ in
+      let normed = Normed point (RootScale point) in
+      let of-point = length-point n some s z σ ζ of-z in
+      let of-normed = length-normed n some point (RootScale point) of-point in
+      simp (lengths-cond, length-cond, of-w, of-lambda, of-u, of-v, of-point, of-normed, length-lambda n some s z σ ζ (RootScale point) of-s, length-sparse-u n some normed u of-normed, length-sparse-v n some normed v of-normed, cond-same)

@@ -1,0 +1,2 @@
+-- `Laws`: lengths.
+pub mod Laws

@@ -1,0 +1,44 @@
+-- What a scaling computes (document 01, "Second-order rules"; source document 000, lines 158 to 207, in order), with σ, ζ and ω the root
+-- scales of s, z and w. z₁ is Tail z. Assumes nothing.
+use mathlib.Core.List.{List, _∷_}
+use lib.Ieee.{Float, neg}
+use Rattle.root.specs.Root.{Root}
+use Rattle.vecmath.specs.Double.{_⊕_, _⊖_, _⊗_, _⊘_, 𝟎, 𝟏, 𝟐, ½, _!_}
+use Rattle.vecmath.specs.Vector.{Sumsq, Scale, Axpby}
+use Rattle.tails.specs.Tail.{Tail}
+
+-- w before it is normed: s/σ, with z₀/ζ added to the first entry and z₁/ζ taken from the rest
+unfoldable pub Point : (s z : List Float) (σ ζ : Float) → List Float
+Point s z σ ζ =
+    let w = Scale (𝟏 ⊘ σ) s in
+    w ! 0 ⊕ z ! 0 ⊘ ζ ∷ Axpby (neg (𝟏 ⊘ ζ)) (Tail z) 𝟏 (Tail w)
+
+-- w normed by its root scale ω: w/ω, and the first entry then √(1 + w₁·w₁)
+unfoldable pub Normed : (w : List Float) (ω : Float) → List Float
+Normed w ω =
+    let w₁ = Tail (Scale (𝟏 ⊘ ω) w) in
+    Root (𝟏 ⊕ Sumsq w₁) ∷ w₁
+
+-- the scaled vector λ, of γ = ω/2
+unfoldable pub Lambda : (s z : List Float) (σ ζ ω : Float) → List Float
+Lambda s z σ ζ ω =
+    let γ = ½ ⊗ ω in
+    let λ₁ = Axpby ((γ ⊕ z ! 0 ⊘ ζ) ⊘ σ) (Tail s) ((γ ⊕ s ! 0 ⊘ σ) ⊘ ζ) (Tail z) in
+    Scale (Root (σ ⊗ ζ)) (γ ∷ Scale (𝟏 ⊘ (s ! 0 ⊘ σ ⊕ z ! 0 ⊘ ζ ⊕ 𝟐 ⊗ γ)) λ₁)
+
+-- the sparse terms, of the normed w: |w|² and its reciprocal, d, u and v. The old u and v come in times 0
+unfoldable pub SquareOf : List Float → Float
+SquareOf w = w ! 0 ⊗ w ! 0 ⊕ Sumsq (Tail w)
+
+unfoldable pub SparseD : List Float → Float
+SparseD w = ½ ⊗ (𝟏 ⊘ SquareOf w)
+
+unfoldable pub SparseU : (w u : List Float) → List Float
+SparseU w u =
+    let u₀ = Root (SquareOf w ⊖ SparseD w) in
+    u₀ ∷ Axpby (𝟐 ⊗ w ! 0 ⊘ u₀) (Tail w) 𝟎 (Tail u)
+
+unfoldable pub SparseV : (w v : List Float) → List Float
+SparseV w v =
+    let ι = 𝟏 ⊘ SquareOf w in
+    𝟎 ∷ Axpby (Root (𝟐 ⊗ (𝟐 ⊕ ι) ⊘ (𝟐 ⊗ SquareOf w ⊖ ι))) (Tail w) 𝟎 (Tail v)
