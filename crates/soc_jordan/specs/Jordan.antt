@@ -1,4 +1,4 @@
--- Document 01, "Second-order rules": products and inverse products; source document 000, lines 258 to 260, 323 to 325 and 340 to 382, in
+-- Document 01, "Second-order rules": products and inverse products; source document 000, lines 258 to 260, 325 to 327 and 360 to 382, in
 -- order. z₁ is Tail z. Assumes nothing.
 use mathlib.Core.List.{List, [], _∷_}
 use lib.ListN.{length}

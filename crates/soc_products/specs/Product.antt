@@ -36,6 +36,10 @@ MulHs x w η =
     let c = Dot w x ⊗ 𝟐 in
     Scale (η ⊗ η) (Axpby c w 𝟏 (neg (x ! 0) ∷ Tail x))
 
+-- out + η·(ds + κ·w), entry by entry, for the offset's entries from 1 on
+unfoldable pub AddOffset : (out : List Float) (η : Float) (ds : List Float) (κ : Float) (w : List Float) → List Float
+AddOffset out η ds κ w = Each (length out) (λ k. out ! k ⊕ η ⊗ (ds ! k ⊕ κ ⊗ w ! k))
+
 -- the offset of Δs from Δz (Δs_from_Δz_offset)
 unfoldable pub Offset : (ds z w lambda : List Float) (η : Float) → List Float
 Offset ds z w lambda η =
@@ -45,8 +49,7 @@ Offset ds z w lambda η =
     let out = Scale (c ⊘ Residual z) (z ! 0 ∷ Tail (Negated z)) in
     let κ = w₁·ds₁ ⊘ (𝟏 ⊕ w ! 0) in
     let out₀ = out ! 0 ⊕ η ⊗ w₁·ds₁ in
-    let out₁ = Each (length (Tail out)) (λ k. Tail out ! k ⊕ η ⊗ (Tail ds ! k ⊕ κ ⊗ Tail w ! k)) in
-    Scale (𝟏 ⊘ lambda ! 0) (out₀ ∷ out₁)
+    Scale (𝟏 ⊘ lambda ! 0) (out₀ ∷ AddOffset (Tail out) η (Tail ds) κ (Tail w))
 
 -- ---- the bare calls
 
