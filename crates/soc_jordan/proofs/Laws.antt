@@ -1,5 +1,5 @@
--- What these calls write has its slice's length, for every n. Assumes nothing.
-use Prim.Native.Nat.{_≤_}
+-- What these calls write has n entries, where what they are given has. Assumes nothing.
+use Prim.Native.Nat.{ℕ, _≤_}
 use native.Mathlib.Omega.{arith}
 use mathlib.Core.Path.{_≡_}
 use mathlib.Core.List.{List}
@@ -9,10 +9,10 @@ use Rattle.vecmath.specs.Vector.{Axpby}
 use Rattle.vecmath.proofs.Loops.{length-each}
 use Rattle.soc_jordan.specs.Jordan.{Circ, InvCirc}
 
-pub length-circ : (y z : List Float) → 1 ≤ length z → length (Circ y z) ≡ length z
+pub length-circ : {n : ℕ} (y z : List Float) → 1 ≤ n → length z ≡ n → length (Circ y z) ≡ n
 unfolding Circ Axpby
-length-circ y z h = simp (length-each, length-drop) (omega arith)
+length-circ y z h e = simp (length-each, length-drop) (omega arith)
 
-pub length-inv-circ : (y z : List Float) → 1 ≤ length y → length (InvCirc y z) ≡ length y
+pub length-inv-circ : {n : ℕ} (y z : List Float) → 1 ≤ n → length y ≡ n → length (InvCirc y z) ≡ n
 unfolding InvCirc Axpby
-length-inv-circ y z h = simp (length-each, length-drop) (omega arith)
+length-inv-circ y z h e = simp (length-each, length-drop) (omega arith)

@@ -5,7 +5,7 @@ use lib.Ieee.{Float}
 use Rattle.answers.specs.declared.Answer.{Answer}
 use Rattle.answers.specs.Outcome.{Contents, told}
 use Rattle.answers.proofs.Unique.{one-answer}
-use Rattle.soc_products.specs.Product.{SocMulW, SocMulWinv, SocMulHs, SocDsFromDzOffset}
+use Rattle.soc_products.specs.Product.{SocMulW, SocMulWinv, SocMulHs}
 
 module _ {r r′ : Answer} {e e′ : Contents} where
   soc-mul-w : (y x : List Float) (α β : Float) (w : List Float) (η : Float) → told r e ≡ SocMulW y x α β w η → told r′ e′ ≡ SocMulW y x α β w η → (r ≡ r′) × (e ≡ e′)
@@ -16,6 +16,3 @@ module _ {r r′ : Answer} {e e′ : Contents} where
 
   soc-mul-hs : (y x w : List Float) (η : Float) → told r e ≡ SocMulHs y x w η → told r′ e′ ≡ SocMulHs y x w η → (r ≡ r′) × (e ≡ e′)
   soc-mul-hs y x w η = one-answer
-
-  soc-ds-from-dz-offset : (out ds z w lambda : List Float) (η : Float) → told r e ≡ SocDsFromDzOffset out ds z w lambda η → told r′ e′ ≡ SocDsFromDzOffset out ds z w lambda η → (r ≡ r′) × (e ≡ e′)
-  soc-ds-from-dz-offset out ds z w lambda η = one-answer

@@ -1,14 +1,11 @@
--- Worked examples of the definitions, computed: one statement over one list. w = (5/4, 3/4) and η = 1 are the scaling of s = (5, 3) and
--- z = (5, −3), whose lambda is (4, 0). Assumes nothing.
+-- Worked examples of the definitions, computed: one statement over one list. Assumes nothing.
 use mathlib.Core.Path.{refl}
 use mathlib.Core.List.{List, [], _∷_}
 use lib.Ieee.{Float, nan, round, ofBits, add, sub, mul, div, neg}
-use Rattle.root.specs.Root.{Root}
 use Rattle.vecmath.specs.Double.{𝟎, 𝟏}
-use Rattle.vecmath.specs.Vector.{Each, Fold, Dot, Scale, Negated, Axpby}
-use Rattle.vecmath.proofs.Examples.{near, minus, Line, _⇒_, Right}
-use Rattle.soc_residual.specs.Residual.{Residual}
-use Rattle.soc_products.specs.Product.{MulW, MulWinv, MulHs, AddOffset, Offset}
+use Rattle.vecmath.specs.Vector.{Each, Fold, Dot, Scale, Axpby}
+use Rattle.vecmath.proofs.Examples.{near, Line, _⇒_, Right}
+use Rattle.soc_products.specs.Product.{MulW, MulWinv, MulHs}
 
 abbrev w : List Float
 w = near 5 4 ∷ near 3 4 ∷ []
@@ -34,9 +31,8 @@ lines =
     ∷ (times y∙nan (near 5 1 ∷ near 3 1 ∷ []) ⇒ near 17 2 ∷ nan ∷ [])
     ∷ (over y∙nan (near 17 2 ∷ near 15 2 ∷ []) ⇒ near 5 1 ∷ nan ∷ [])
     ∷ (MulHs (near 5 1 ∷ near 3 1 ∷ []) w (near 2 1) ⇒ near 65 1 ∷ near 63 1 ∷ [])
-    ∷ (Offset (near 4 1 ∷ near 12 1 ∷ []) (near 5 1 ∷ minus 3 1 ∷ []) w (near 4 1 ∷ near 0 1 ∷ []) 𝟏 ⇒ near 7 2 ∷ near 9 2 ∷ [])
     ∷ []
 
 worked : Right lines
-unfolding lines MulW MulWinv MulHs Offset AddOffset Residual Scale Negated Axpby Dot Each Fold Root round ofBits add sub mul div neg
+unfolding lines MulW MulWinv MulHs Scale Axpby Dot Each Fold round ofBits add sub mul div neg
 worked = refl

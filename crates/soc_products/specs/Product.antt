@@ -1,14 +1,13 @@
--- Document 01, "Second-order rules": `mul_W`, `mul_Winv`, `mul_Hs` and the offset; source document 000, lines 248 to 287 and 504 to 530, in
--- order. z₁ is Tail z. β·y is computed even for β = 0. Assumes nothing.
+-- Document 01, "Second-order rules": `mul_W`, `mul_Winv` and `mul_Hs`; source document 000, lines 248 to 256 and 504 to 530, in order. z₁ is
+-- Tail z. β·y is computed even for β = 0. Assumes nothing.
 use mathlib.Core.List.{List, [], _∷_}
 use lib.ListN.{length}
 use lib.Ieee.{Float, neg}
 use Rattle.vecmath.specs.Double.{_⊕_, _⊖_, _⊗_, _⊘_, 𝟏, 𝟐, _!_}
-use Rattle.vecmath.specs.Vector.{Each, Dot, Scale, Negated, Axpby}
+use Rattle.vecmath.specs.Vector.{Dot, Scale, Axpby}
 use Rattle.tails.specs.Tail.{Tail}
 use Rattle.answers.specs.Refusal.{Refusal}
 use Rattle.answers.specs.Outcome.{done, Came, Call}
-use Rattle.soc_residual.specs.Residual.{Residual}
 
 -- ---- the values
 
@@ -36,21 +35,6 @@ MulHs x w η =
     let c = Dot w x ⊗ 𝟐 in
     Scale (η ⊗ η) (Axpby c w 𝟏 (neg (x ! 0) ∷ Tail x))
 
--- out + η·(ds + κ·w), entry by entry, for the offset's entries from 1 on
-unfoldable pub AddOffset : (out : List Float) (η : Float) (ds : List Float) (κ : Float) (w : List Float) → List Float
-AddOffset out η ds κ w = Each (length out) (λ k. out ! k ⊕ η ⊗ (ds ! k ⊕ κ ⊗ w ! k))
-
--- the offset of Δs from Δz (Δs_from_Δz_offset)
-unfoldable pub Offset : (ds z w lambda : List Float) (η : Float) → List Float
-Offset ds z w lambda η =
-    let λ₁·ds₁ = Dot (Tail lambda) (Tail ds) in
-    let w₁·ds₁ = Dot (Tail w) (Tail ds) in
-    let c = lambda ! 0 ⊗ ds ! 0 ⊖ λ₁·ds₁ in
-    let out = Scale (c ⊘ Residual z) (z ! 0 ∷ Tail (Negated z)) in
-    let κ = w₁·ds₁ ⊘ (𝟏 ⊕ w ! 0) in
-    let out₀ = out ! 0 ⊕ η ⊗ w₁·ds₁ in
-    Scale (𝟏 ⊘ lambda ! 0) (out₀ ∷ AddOffset (Tail out) η (Tail ds) κ (Tail w))
-
 -- ---- the bare calls
 
 abbrev pub SocMulW : (y x : List Float) (α β : Float) (w : List Float) (η : Float) → Came
@@ -61,7 +45,3 @@ SocMulWinv y x α β w η = Call (Refusal 2 (length y) (length x ∷ length w �
 
 abbrev pub SocMulHs : (y x w : List Float) (η : Float) → Came
 SocMulHs y x w η = Call (Refusal 2 (length y) (length x ∷ length w ∷ [])) done (y ∷ []) (MulHs x w η ∷ [])
-
-abbrev pub SocDsFromDzOffset : (out ds z w lambda : List Float) (η : Float) → Came
-SocDsFromDzOffset out ds z w lambda η =
-    Call (Refusal 2 (length out) (length ds ∷ length z ∷ length w ∷ length lambda ∷ [])) done (out ∷ []) (Offset ds z w lambda η ∷ [])

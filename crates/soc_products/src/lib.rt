@@ -1,15 +1,12 @@
-// The second-order cone's products with W, its inverse and Hs, and the offset of Δs from Δz (source document 000, lines 248 to 256, 266 to
-// 287 and 504 to 530): the bare calls, and behind each the kernel that it calls once nothing is refused.
+// The second-order cone's products with W, its inverse and Hs (source document 000, lines 248 to 256 and 504 to 530): the bare calls, and
+// behind each the kernel that it calls once nothing is refused.
 use answers::Answer;
 ghost use mathlib.Core.Path.{_≡_};
 ghost use mathlib.Core.List.{[], _∷_};
-ghost use Prim.Native.Nat.{_≤_};
 ghost use lib.ListN.{length};
-ghost use Rattle.vecmath.specs.Double.{_!_};
-ghost use Rattle.tails.specs.Tail.{Tail};
 ghost use Rattle.answers.specs.Refusal.{Fit};
 ghost use Rattle.answers.specs.Outcome.{told};
-ghost use Rattle.soc_products.specs.Product.{MulW, MulWinv, MulHs, AddOffset, Offset, SocMulW, SocMulWinv, SocMulHs, SocDsFromDzOffset};
+ghost use Rattle.soc_products.specs.Product.{MulW, MulWinv, MulHs, SocMulW, SocMulWinv, SocMulHs};
 
 // ---- products with W and its inverse
 
@@ -86,77 +83,5 @@ pub fn soc_mul_hs(y: &mut [f64], x: &[f64], w: &[f64], eta: &f64) -> Answer
         return Answer::Refused(no);
     }
     mul_hs(y, x, w, *eta);
-    Answer::Done
-}
-
-// ---- the offset of Δs from Δz
-
-// out = out + eta·(ds + kappa·w)
-fn add_offset(out: &mut [f64], eta: f64, ds: &[f64], kappa: f64, w: &[f64])
-    requires { ⌜ (length (now ds) ≡ length (now out)) × (length (now w) ≡ length (now out)) ⌝ }
-    ensures { λ _. ⌜ now (out .exit) ≡ AddOffset (now (out .entry)) eta (now (ds .entry)) kappa (now (w .entry)) ⌝ }
-{
-    let mut i = 0;
-    while i < out.len() {
-        out[i] = out[i] + eta * (ds[i] + kappa * w[i]);
-        i += 1;
-    }
-}
-
-// The same on entries from 1 on.
-fn add_offset_tail(out: &mut [f64], eta: f64, ds: &[f64], kappa: f64, w: &[f64])
-    requires { ⌜ (1 ≤ length (now out)) × (length (now ds) ≡ length (now out)) × (length (now w) ≡ length (now out)) ⌝ }
-    ensures { λ _. ⌜ now (out .exit) ≡ now (out .entry) ! 0
-        ∷ AddOffset (Tail (now (out .entry))) eta (Tail (now (ds .entry))) kappa (Tail (now (w .entry))) ⌝ }
-{
-    add_offset(&mut out[1..], eta, &ds[1..], kappa, &w[1..])
-}
-
-pub fn ds_from_dz_offset(
-    out: &mut [f64],
-    ds: &[f64],
-    z: &[f64],
-    w: &[f64],
-    lambda: &[f64],
-    eta: f64,
-)
-    requires { ⌜ Fit 2 (length (now out)) (length (now ds) ∷ length (now z) ∷ length (now w) ∷ length (now lambda) ∷ []) ⌝ }
-    ensures { λ _. ⌜ now (out .exit) ≡ Offset (now (ds .entry)) (now (z .entry)) (now (w .entry)) (now (lambda .entry)) eta ⌝ }
-{
-    let resz = soc_residual::residual(z);
-    let lambda1ds1 = tails::dot(lambda, ds);
-    let w1ds1 = tails::dot(w, ds);
-    vecmath::negate_from(out, z);
-    tails::set_first(out, z[0]);
-    let lambda0 = lambda[0];
-    let c = lambda0 * ds[0] - lambda1ds1;
-    vecmath::scale(out, c / resz);
-    let out0 = out[0] + eta * w1ds1;
-    tails::set_first(out, out0);
-    add_offset_tail(out, eta, ds, w1ds1 / (1.0 + w[0]), w);
-    vecmath::scale(out, 1.0 / lambda0);
-}
-
-// The constant part of Δs as a function of Δz.
-pub fn soc_ds_from_dz_offset(
-    out: &mut [f64],
-    ds: &[f64],
-    z: &[f64],
-    w: &[f64],
-    lambda: &[f64],
-    eta: &f64,
-) -> Answer
-    ensures { λ r. ⌜ told r (now (out .exit) ∷ []) ≡ SocDsFromDzOffset (now (out .entry)) (now (ds .entry)) (now (z .entry))
-        (now (w .entry)) (now (lambda .entry)) (now (eta .entry)) ⌝ }
-{
-    let same = (ds.len() == out.len())
-        & (z.len() == out.len())
-        & (w.len() == out.len())
-        & (lambda.len() == out.len());
-    let no = answers::refusal(2, out.len(), same);
-    if no != 0 {
-        return Answer::Refused(no);
-    }
-    ds_from_dz_offset(out, ds, z, w, lambda, *eta);
     Answer::Done
 }

@@ -1,8 +1,8 @@
--- `soc_products::ds_from_dz_offset` meets its contract: what each call left, put in for what it was. Assumes nothing.
+-- `soc_offset::ds_from_dz_offset` meets its contract: what each call left, put in for what it was. Assumes nothing.
 use borrow.Author.Needs.{needs}
-use Rattle.soc_products.specs.Product.{Offset}
-use Rattle.soc_products.proofs.ds_from_dz_offset.Statement.{statement}
-use Rattle.soc_products.proofs.ds_from_dz_offset.Tie as tie
+use Rattle.soc_offset.specs.Offset.{Offset}
+use Rattle.soc_offset.proofs.ds_from_dz_offset.Statement.{statement}
+use Rattle.soc_offset.proofs.ds_from_dz_offset.Tie as tie
 
 pub ds-from-dz-offset-spec : {M : Type 1} → statement M
 unfolding Offset

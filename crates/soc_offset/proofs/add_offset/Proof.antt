@@ -1,8 +1,8 @@
--- `soc_products::add_offset` meets its contract. Assumes nothing.
-use Rattle.soc_products.specs.Product.{AddOffset}
+-- `soc_offset::add_offset` meets its contract. Assumes nothing.
+use Rattle.soc_offset.specs.Offset.{AddOffset}
 use Rattle.vecmath.proofs.Loops.{Filled, loops, length, _-_, nan, _⊕_, _⊗_, _!_}
-use Rattle.soc_products.proofs.add_offset.Statement.{statement}
-use Rattle.soc_products.proofs.add_offset.Tie as tie
+use Rattle.soc_offset.proofs.add_offset.Statement.{statement}
+use Rattle.soc_offset.proofs.add_offset.Tie as tie
 
 pub add-offset-spec : {M : Type 1} → statement M
 unfolding AddOffset

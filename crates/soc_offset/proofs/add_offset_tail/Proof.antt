@@ -1,8 +1,8 @@
--- `soc_products::add_offset_tail` meets its contract. Assumes nothing.
+-- `soc_offset::add_offset_tail` meets its contract. Assumes nothing.
 use borrow.Author.Needs.{needs}
 use Rattle.tails.proofs.Laws.{part-tail, tail-back}
-use Rattle.soc_products.proofs.add_offset_tail.Statement.{statement}
-use Rattle.soc_products.proofs.add_offset_tail.Tie as tie
+use Rattle.soc_offset.proofs.add_offset_tail.Statement.{statement}
+use Rattle.soc_offset.proofs.add_offset_tail.Tie as tie
 
 pub add-offset-tail-spec : {M : Type 1} → statement M
 add-offset-tail-spec =

@@ -1,9 +1,9 @@
--- `soc_products::soc_ds_from_dz_offset` meets its contract. Assumes nothing.
+-- `soc_offset::soc_ds_from_dz_offset` meets its contract. Assumes nothing.
 use mathlib.Core.List.{[], _∷_}
 use borrow.Author.Needs.{needs}
 use Rattle.answers.proofs.Laws.{fit, outcomes}
-use Rattle.soc_products.proofs.soc_ds_from_dz_offset.Statement.{statement}
-use Rattle.soc_products.proofs.soc_ds_from_dz_offset.Tie as tie
+use Rattle.soc_offset.proofs.soc_ds_from_dz_offset.Statement.{statement}
+use Rattle.soc_offset.proofs.soc_ds_from_dz_offset.Tie as tie
 
 pub soc-ds-from-dz-offset-spec : {M : Type 1} → statement M
 soc-ds-from-dz-offset-spec =

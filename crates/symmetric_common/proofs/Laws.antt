@@ -1,0 +1,31 @@
+-- What these calls write has n entries each, where what they are given has. Assumes nothing.
+use Prim.Native.Nat.{ℕ, _≤_}
+use native.Mathlib.Omega.{arith}
+use mathlib.Core.Path.{_≡_, _∙_}
+use mathlib.Core.List.{List, map}
+use lib.ListN.{length, length-drop}
+use lib.Ieee.{Float, neg}
+use Rattle.vecmath.specs.Double.{𝟎, 𝟏}
+use Rattle.answers.specs.Refusal.{Same}
+use Rattle.soc_residual.specs.Residual.{UnitShift}
+use Rattle.soc_products.proofs.Laws.{length-mul-w, length-mul-winv}
+use Rattle.soc_jordan.proofs.Laws.{length-circ}
+use Rattle.nn_scaling.proofs.Laws as unit
+use Rattle.nn_products.proofs.Laws as entrywise
+use Rattle.symmetric_common.specs.Combined.{CombinedShift, NonnegCombinedShift}
+
+pub length-unit-shift : {n : ℕ} (z : List Float) (α : Float) → 1 ≤ n → length z ≡ n → length (UnitShift z α) ≡ n
+unfolding UnitShift
+length-unit-shift z α h e = simp (length-drop) (omega arith)
+
+pub lengths-combined : {n : ℕ} (Δz Δs : List Float) (σμ : Float) (w : List Float) (η : Float) → 1 ≤ n → length Δz ≡ n → length Δs ≡ n → Same n (map length (CombinedShift Δz Δs σμ w η))
+unfolding CombinedShift
+lengths-combined Δz Δs σμ w η h e f =
+    let z = length-mul-w Δz Δz 𝟏 𝟎 w η h e in
+    (length-unit-shift _ (neg σμ) h (length-circ _ _ h z), (z, (length-mul-winv Δs Δs 𝟏 𝟎 w η h f, tt)))
+
+pub lengths-nonneg-combined : {n : ℕ} (Δz Δs : List Float) (σμ : Float) (w : List Float) → length Δz ≡ n → length Δs ≡ n → Same n (map length (NonnegCombinedShift Δz Δs σμ w))
+unfolding NonnegCombinedShift
+lengths-nonneg-combined Δz Δs σμ w e f =
+    let s = entrywise.length-mul-winv Δs Δs 𝟏 𝟎 w ∙ f in
+    (unit.length-shift (neg σμ) _ ∙ entrywise.length-circ _ _ ∙ s, (entrywise.length-mul-w Δz Δz 𝟏 𝟎 w ∙ e, (s, tt)))

@@ -1,0 +1,15 @@
+-- Each public call's contract leaves one answer and one final contents of what it was lent. Assumes nothing.
+use mathlib.Core.Path.{_≡_}
+use mathlib.Core.List.{List}
+use lib.Ieee.{Float}
+use Rattle.answers.specs.declared.Answer.{Answer}
+use Rattle.answers.specs.Outcome.{Contents, told}
+use Rattle.answers.proofs.Unique.{one-answer}
+use Rattle.symmetric_common.specs.Combined.{SocCombinedDsShift, NnCombinedDsShift}
+
+module _ {r r′ : Answer} {e e′ : Contents} where
+  soc-combined-ds-shift : (shift Δz Δs : List Float) (σμ : Float) (w : List Float) (η : Float) → told r e ≡ SocCombinedDsShift shift Δz Δs σμ w η → told r′ e′ ≡ SocCombinedDsShift shift Δz Δs σμ w η → (r ≡ r′) × (e ≡ e′)
+  soc-combined-ds-shift shift Δz Δs σμ w η = one-answer
+
+  nn-combined-ds-shift : (shift Δz Δs : List Float) (σμ : Float) (w : List Float) → told r e ≡ NnCombinedDsShift shift Δz Δs σμ w → told r′ e′ ≡ NnCombinedDsShift shift Δz Δs σμ w → (r ≡ r′) × (e ≡ e′)
+  nn-combined-ds-shift shift Δz Δs σμ w = one-answer

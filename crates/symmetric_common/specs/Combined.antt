@@ -1,0 +1,38 @@
+-- The shift in the combined step (source document 002, lines 53 to 84): W⁻¹Δs ∘ WΔz − σμ·e, for each kind. Δz and Δs are overwritten by
+-- WΔz and W⁻¹Δs, and the shift is workspace until then (document 01, "Port order and what must change shape"). The contents are listed in
+-- the order shift, Δz, Δs. Assumes nothing.
+use mathlib.Core.List.{List, [], _∷_}
+use lib.ListN.{length}
+use lib.Ieee.{Float, neg}
+use Rattle.vecmath.specs.Double.{𝟎, 𝟏}
+use Rattle.answers.specs.Refusal.{Refusal}
+use Rattle.answers.specs.Outcome.{done, Contents, Came, Call}
+use Rattle.soc_residual.specs.Residual.{UnitShift}
+use Rattle.soc_products.specs.Product.{MulW, MulWinv}
+use Rattle.soc_jordan.specs.Jordan.{Circ}
+use Rattle.nn_scaling.specs.Scaling.{NonnegShift}
+use Rattle.nn_products.specs.Products.{NonnegMulW, NonnegMulWinv, NonnegCirc}
+
+-- ---- the values
+
+unfoldable pub CombinedShift : (step_z step_s : List Float) (σμ : Float) (w : List Float) (η : Float) → Contents
+CombinedShift step_z step_s σμ w η =
+    let Δz = MulW step_z step_z 𝟏 𝟎 w η in
+    let Δs = MulWinv step_s step_s 𝟏 𝟎 w η in
+    UnitShift (Circ Δs Δz) (neg σμ) ∷ Δz ∷ Δs ∷ []
+
+unfoldable pub NonnegCombinedShift : (step_z step_s : List Float) (σμ : Float) (w : List Float) → Contents
+NonnegCombinedShift step_z step_s σμ w =
+    let Δz = NonnegMulW step_z step_z 𝟏 𝟎 w in
+    let Δs = NonnegMulWinv step_s step_s 𝟏 𝟎 w in
+    NonnegShift (neg σμ) (NonnegCirc Δs Δz) ∷ Δz ∷ Δs ∷ []
+
+-- ---- the bare calls
+
+abbrev pub SocCombinedDsShift : (shift step_z step_s : List Float) (σμ : Float) (w : List Float) (η : Float) → Came
+SocCombinedDsShift shift step_z step_s σμ w η =
+    Call (Refusal 2 (length shift) (length step_z ∷ length step_s ∷ length w ∷ [])) done (shift ∷ step_z ∷ step_s ∷ []) (CombinedShift step_z step_s σμ w η)
+
+abbrev pub NnCombinedDsShift : (shift step_z step_s : List Float) (σμ : Float) (w : List Float) → Came
+NnCombinedDsShift shift step_z step_s σμ w =
+    Call (Refusal 0 (length shift) (length step_z ∷ length step_s ∷ length w ∷ [])) done (shift ∷ step_z ∷ step_s ∷ []) (NonnegCombinedShift step_z step_s σμ w)

@@ -1,0 +1,102 @@
+// The shift in the combined step, for each kind of cone (source document 002, lines 53 to 84): the bare calls, and behind each the kernel
+// that it calls once nothing is refused. step_z and step_s are overwritten, and shift is the workspace.
+use answers::Answer;
+ghost use mathlib.Core.Path.{_≡_};
+ghost use mathlib.Core.List.{[], _∷_};
+ghost use lib.ListN.{length};
+ghost use Rattle.answers.specs.Refusal.{Fit};
+ghost use Rattle.answers.specs.Outcome.{told};
+ghost use Rattle.symmetric_common.specs.Combined.{CombinedShift, NonnegCombinedShift, SocCombinedDsShift, NnCombinedDsShift};
+
+// ---- second-order
+
+pub fn soc_combined(
+    shift: &mut [f64],
+    step_z: &mut [f64],
+    step_s: &mut [f64],
+    sigma_mu: f64,
+    w: &[f64],
+    eta: f64,
+)
+    requires { ⌜ Fit 2 (length (now shift)) (length (now «step_z») ∷ length (now «step_s») ∷ length (now w) ∷ []) ⌝ }
+    ensures { λ _. ⌜ now (shift .exit) ∷ now («step_z» .exit) ∷ now («step_s» .exit) ∷ []
+        ≡ CombinedShift (now («step_z» .entry)) (now («step_s» .entry)) «sigma_mu» (now (w .entry)) eta ⌝ }
+{
+    // Δz ← WΔz
+    vecmath::copy_from(shift, step_z);
+    soc_products::mul_w(step_z, shift, 1.0, 0.0, w, eta);
+    // Δs ← W⁻¹Δs
+    vecmath::copy_from(shift, step_s);
+    soc_products::mul_winv(step_s, shift, 1.0, 0.0, w, eta);
+    // shift = W⁻¹Δs ∘ WΔz − σμ·e
+    soc_jordan::circ_op(shift, step_s, step_z);
+    soc_residual::scaled_unit_shift(shift, -sigma_mu);
+}
+
+pub fn soc_combined_ds_shift(
+    shift: &mut [f64],
+    step_z: &mut [f64],
+    step_s: &mut [f64],
+    sigma_mu: f64,
+    w: &[f64],
+    eta: &f64,
+) -> Answer
+    ensures { λ r. ⌜ told r (now (shift .exit) ∷ now («step_z» .exit) ∷ now («step_s» .exit) ∷ [])
+        ≡ SocCombinedDsShift (now (shift .entry)) (now («step_z» .entry)) (now («step_s» .entry)) «sigma_mu» (now (w .entry))
+        (now (eta .entry)) ⌝ }
+{
+    let same = (step_z.len() == shift.len())
+        & (step_s.len() == shift.len())
+        & (w.len() == shift.len());
+    let no = answers::refusal(2, shift.len(), same);
+    if no != 0 {
+        return Answer::Refused(no);
+    }
+    soc_combined(shift, step_z, step_s, sigma_mu, w, *eta);
+    Answer::Done
+}
+
+// ---- nonnegative
+
+pub fn nn_combined(
+    shift: &mut [f64],
+    step_z: &mut [f64],
+    step_s: &mut [f64],
+    sigma_mu: f64,
+    w: &[f64],
+)
+    requires { ⌜ Fit 0 (length (now shift)) (length (now «step_z») ∷ length (now «step_s») ∷ length (now w) ∷ []) ⌝ }
+    ensures { λ _. ⌜ now (shift .exit) ∷ now («step_z» .exit) ∷ now («step_s» .exit) ∷ []
+        ≡ NonnegCombinedShift (now («step_z» .entry)) (now («step_s» .entry)) «sigma_mu» (now (w .entry)) ⌝ }
+{
+    // Δz ← WΔz
+    vecmath::copy_from(shift, step_z);
+    nn_products::mul_w(step_z, shift, 1.0, 0.0, w);
+    // Δs ← W⁻¹Δs
+    vecmath::copy_from(shift, step_s);
+    nn_products::mul_winv(step_s, shift, 1.0, 0.0, w);
+    // shift = W⁻¹Δs ∘ WΔz − σμ·e
+    nn_products::circ_op(shift, step_s, step_z);
+    nn_scaling::scaled_unit_shift(shift, -sigma_mu);
+}
+
+pub fn nn_combined_ds_shift(
+    shift: &mut [f64],
+    step_z: &mut [f64],
+    step_s: &mut [f64],
+    sigma_mu: f64,
+    w: &[f64],
+) -> Answer
+    ensures { λ r. ⌜ told r (now (shift .exit) ∷ now («step_z» .exit) ∷ now («step_s» .exit) ∷ [])
+        ≡ NnCombinedDsShift (now (shift .entry)) (now («step_z» .entry)) (now («step_s» .entry)) «sigma_mu» (now (w .entry)) ⌝ }
+{
+    let same = (step_z.len() == shift.len())
+        & (step_s.len() == shift.len())
+        & (w.len() == shift.len());
+    let no = answers::refusal(0, shift.len(), same);
+    if no != 0 {
+        return Answer::Refused(no);
+    }
+    nn_combined(shift, step_z, step_s, sigma_mu, w);
+    Answer::Done
+}
