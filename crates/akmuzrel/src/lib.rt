@@ -1,5 +1,8 @@
 // The library for C: every bare call of both cones (crates export_soc and export_nn), and the three operations on numbers. include/akmuzrel.h
 // declares them. Of our own; nothing is ported.
+mod nn;
+mod soc;
+
 ghost use mathlib.Core.Path.{_≡_};
 ghost use Rattle.extrema.specs.Extrema.{Least, Greatest};
 ghost use Rattle.root.specs.Root.{Root};

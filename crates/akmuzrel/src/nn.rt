@@ -5,6 +5,7 @@ ghost use mathlib.Core.List.{[], _∷_};
 ghost use Rattle.nn_scaling.specs.Scaling.{NnMargins, NnScaledUnitShift, NnUnitInitialization, NnSetIdentityScaling, NnUpdateScaling, NnGetHs};
 ghost use Rattle.nn_products.specs.Products.{NnMulHs, NnAffineDs, NnDsFromDzOffset, NnMulW, NnMulWinv, NnCircOp, NnInvCircOp, NnLambdaInvCircOp};
 ghost use Rattle.nn_step.specs.Step.{NnStep, NnStepLength};
+ghost use Rattle.symmetric_common.specs.Combined.{NnCombinedDsShift};
 ghost use Rattle.standing.specs.Standing.{NnStands};
 ghost use Rattle.codes.specs.Code.{real, whole, export, Exported};
 
@@ -141,6 +142,20 @@ pub extern "C" fn akm_nn_step_length(
         ≡ Exported (real (now («step_z» .entry)) ∷ real (now («step_s» .entry)) ∷ []) (NnStepLength (now (dz .entry)) (now (ds .entry)) (now (z .entry)) (now (s .entry)) limit) ⌝ }
 {
     codes::steps(nn_step::nn_step_length(dz, ds, z, s, limit), step_z, step_s)
+}
+
+#[no_mangle]
+pub extern "C" fn akm_nn_combined_ds_shift(
+    shift: &mut [f64],
+    step_z: &mut [f64],
+    step_s: &mut [f64],
+    sigma_mu: f64,
+    w: &[f64],
+) -> u8
+    ensures { λ r. ⌜ export r [] (now (shift .exit) ∷ now («step_z» .exit) ∷ now («step_s» .exit) ∷ [])
+        ≡ Exported [] (NnCombinedDsShift (now (shift .entry)) (now («step_z» .entry)) (now («step_s» .entry)) «sigma_mu» (now (w .entry))) ⌝ }
+{
+    codes::answer(symmetric_common::nn_combined_ds_shift(shift, step_z, step_s, sigma_mu, w))
 }
 
 #[no_mangle]

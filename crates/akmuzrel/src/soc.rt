@@ -7,9 +7,11 @@ ghost use Rattle.answers.specs.Outcome.{toldSquare};
 ghost use Rattle.soc_residual.specs.Residual.{SocResidual, SocResidualShifted, SqrtSocResidual, SocMargins, SocScaledUnitShift, SocUnitInitialization};
 ghost use Rattle.soc_scaling.specs.Scaling.{SocSetIdentityScaling, Stored, SocUpdateScaling};
 ghost use Rattle.soc_blocks.specs.Block.{SocGetHs, SocSquareHs};
-ghost use Rattle.soc_products.specs.Product.{SocMulW, SocMulWinv, SocMulHs, SocDsFromDzOffset};
+ghost use Rattle.soc_products.specs.Product.{SocMulW, SocMulWinv, SocMulHs};
+ghost use Rattle.soc_offset.specs.Offset.{SocDsFromDzOffset};
 ghost use Rattle.soc_jordan.specs.Jordan.{SocCircOp, SocAffineDs, SocInvCircOp, SocLambdaInvCircOp};
 ghost use Rattle.soc_step.specs.Step.{SocStep, SocStepLength};
+ghost use Rattle.symmetric_common.specs.Combined.{SocCombinedDsShift};
 ghost use Rattle.standing.specs.Standing.{SocStands};
 ghost use Rattle.codes.specs.Code.{real, whole, export, Exported};
 
@@ -160,7 +162,7 @@ pub extern "C" fn akm_soc_ds_from_dz_offset(
     ensures { λ r. ⌜ export r [] (now (out .exit) ∷ [])
         ≡ Exported [] (SocDsFromDzOffset (now (out .entry)) (now (ds .entry)) (now (z .entry)) (now (w .entry)) (now (lambda .entry)) (now (eta .entry))) ⌝ }
 {
-    codes::answer(soc_products::soc_ds_from_dz_offset(out, ds, z, w, lambda, eta))
+    codes::answer(soc_offset::soc_ds_from_dz_offset(out, ds, z, w, lambda, eta))
 }
 
 #[no_mangle]
@@ -218,6 +220,21 @@ pub extern "C" fn akm_soc_step_length(
         step_z,
         step_s,
     )
+}
+
+#[no_mangle]
+pub extern "C" fn akm_soc_combined_ds_shift(
+    shift: &mut [f64],
+    step_z: &mut [f64],
+    step_s: &mut [f64],
+    sigma_mu: f64,
+    w: &[f64],
+    eta: &f64,
+) -> u8
+    ensures { λ r. ⌜ export r [] (now (shift .exit) ∷ now («step_z» .exit) ∷ now («step_s» .exit) ∷ [])
+        ≡ Exported [] (SocCombinedDsShift (now (shift .entry)) (now («step_z» .entry)) (now («step_s» .entry)) «sigma_mu» (now (w .entry)) (now (eta .entry))) ⌝ }
+{
+    codes::answer(symmetric_common::soc_combined_ds_shift(shift, step_z, step_s, sigma_mu, w, eta))
 }
 
 #[no_mangle]
