@@ -94,6 +94,9 @@ uint8_t akm_soc_affine_ds(double *ds, size_t ds_len, const double *lambda, size_
 /* out = the constant part of Ds as a function of Dz */
 uint8_t akm_soc_ds_from_dz_offset(double *out, size_t out_len, const double *ds, size_t ds_len, const double *z, size_t z_len, const double *w, size_t w_len, const double *lambda, size_t lambda_len, const double *eta);
 
+/* shift = Ds*Dz - sigma_mu*(1, 0, ..), with Dz = W*step_z and Ds = W's inverse times step_s, which are left in step_z and step_s */
+uint8_t akm_soc_combined_ds_shift(double *shift, size_t shift_len, double *step_z, size_t step_z_len, double *step_s, size_t step_s_len, double sigma_mu, const double *w, size_t w_len, const double *eta);
+
 /* ---- second-order: steps */
 
 /* step = how far x may go along y, at most limit */
@@ -129,6 +132,7 @@ uint8_t akm_nn_mul_winv(double *y, size_t y_len, const double *x, size_t x_len, 
 uint8_t akm_nn_circ_op(double *x, size_t x_len, const double *y, size_t y_len, const double *z, size_t z_len);
 uint8_t akm_nn_inv_circ_op(double *x, size_t x_len, const double *y, size_t y_len, const double *z, size_t z_len);
 uint8_t akm_nn_lambda_inv_circ_op(double *x, size_t x_len, const double *z, size_t z_len, const double *lambda, size_t lambda_len);
+uint8_t akm_nn_combined_ds_shift(double *shift, size_t shift_len, double *step_z, size_t step_z_len, double *step_s, size_t step_s_len, double sigma_mu, const double *w, size_t w_len);
 uint8_t akm_nn_step(const double *x, size_t x_len, const double *y, size_t y_len, double limit, double *step);
 uint8_t akm_nn_step_length(const double *dz, size_t dz_len, const double *ds, size_t ds_len, const double *z, size_t z_len, const double *s, size_t s_len, double limit, double *step_z, double *step_s);
 
