@@ -49,7 +49,7 @@ pub extern "C" fn measured_dot(x: &[f64], y: &[f64]) -> f64
     if y.len() != x.len() {
         return 0.0 / 0.0;
     }
-    vecmath::dot(x, y)
+    folds::dot(x, y)
 }
 
 // y = a·x + b·y, and whether it was done

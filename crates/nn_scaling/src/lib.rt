@@ -16,7 +16,7 @@ ghost use Rattle.nn_scaling.specs.Scaling.{NonnegMargins, NonnegShift, N
 pub fn margins(z: &[f64]) -> Margins
     ensures { λ r. ⌜ ofMargins r ≡ gives (NonnegMargins (now (z .entry))) ⌝ }
 {
-    Margins::Are(vecmath::minimum(z), vecmath::positives(z))
+    Margins::Are(folds::minimum(z), folds::positives(z))
 }
 
 pub fn nn_margins(z: &[f64]) -> Margins

@@ -14,7 +14,7 @@ pub fn circ_op(x: &mut [f64], y: &[f64], z: &[f64])
     requires { ⌜ Fit 2 (length (now x)) (length (now y) ∷ length (now z) ∷ []) ⌝ }
     ensures { λ _. ⌜ now (x .exit) ≡ Circ (now (y .entry)) (now (z .entry)) ⌝ }
 {
-    let x0 = vecmath::dot(y, z);
+    let x0 = folds::dot(y, z);
     tails::set_first(x, x0);
     tails::waxpby(x, y[0], z, z[0], y);
 }

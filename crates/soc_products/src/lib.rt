@@ -66,7 +66,7 @@ pub fn mul_hs(y: &mut [f64], x: &[f64], w: &[f64], eta: f64)
     requires { ⌜ Fit 2 (length (now y)) (length (now x) ∷ length (now w) ∷ []) ⌝ }
     ensures { λ _. ⌜ now (y .exit) ≡ MulHs (now (x .entry)) (now (w .entry)) eta ⌝ }
 {
-    let c = vecmath::dot(w, x) * 2.0;
+    let c = folds::dot(w, x) * 2.0;
     vecmath::copy_from(y, x);
     tails::set_first(y, -x[0]);
     vecmath::axpby(y, c, w, 1.0);

@@ -9,9 +9,9 @@ use Rattle.vecmath.specs.Vector.{Constant}
 use Rattle.vecmath.proofs.Loops.{length-each}
 use Rattle.soc_residual.specs.Residual.{UnitShift, UnitVector}
 
-pub length-unit-shift : (z : List Float) (α : Float) → 2 ≤ length z → length (UnitShift z α) ≡ length z
+pub length-unit-shift : {n : ℕ} (z : List Float) (α : Float) → 1 ≤ n → length z ≡ n → length (UnitShift z α) ≡ n
 unfolding UnitShift
-length-unit-shift z α h = simp (length-drop) (omega arith)
+length-unit-shift z α h e = simp (length-drop) (omega arith)
 
 pub length-unit-vector : (n : ℕ) → 2 ≤ n → length (UnitVector n) ≡ n
 unfolding UnitVector UnitShift Constant

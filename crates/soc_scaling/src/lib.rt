@@ -43,9 +43,14 @@ pub fn update_scaling(
     eta: &mut f64,
     d: &mut f64,
 ) -> bool
-    requires { ⌜ Fit 2 (length (now s)) (length (now z) ∷ length (now w) ∷ length (now lambda) ∷ length (now u) ∷ length (now v) ∷ []) ⌝ }
-    ensures { λ r. ⌜ record { reply = truth r; news = Stored (now (w .exit)) (now (lambda .exit)) (now (u .exit)) (now (v .exit)) (now (eta .exit)) (now (d .exit)) }
-        ≡ UpdateScaling (now (s .entry)) (now (z .entry)) (now (w .entry)) (now (lambda .entry)) (now (u .entry)) (now (v .entry)) (now (eta .entry)) (now (d .entry)) ⌝ }
+    requires { ⌜ Fit 2 (length (now s))
+        (length (now z) ∷ length (now w) ∷ length (now lambda) ∷ length (now u) ∷ length (now v) ∷ []) ⌝ }
+    ensures { λ r. ⌜ record {
+      reply = truth r;
+      news = Stored (now (w .exit)) (now (lambda .exit)) (now (u .exit)) (now (v .exit)) (now (eta .exit)) (now (d .exit));
+    }
+        ≡ UpdateScaling (now (s .entry)) (now (z .entry)) (now (w .entry)) (now (lambda .entry)) (now (u .entry)) (now (v .entry))
+        (now (eta .entry)) (now (d .entry)) ⌝ }
 {
     let zscale = soc_residual::sqrt_residual(z);
     let sscale = soc_residual::sqrt_residual(s);
@@ -92,8 +97,10 @@ pub fn soc_update_scaling(
     eta: &mut f64,
     d: &mut f64,
 ) -> Scaling
-    ensures { λ r. ⌜ toldScaling r (Stored (now (w .exit)) (now (lambda .exit)) (now (u .exit)) (now (v .exit)) (now (eta .exit)) (now (d .exit)))
-        ≡ SocUpdateScaling (now (s .entry)) (now (z .entry)) (now (w .entry)) (now (lambda .entry)) (now (u .entry)) (now (v .entry)) (now (eta .entry)) (now (d .entry)) ⌝ }
+    ensures { λ r. ⌜ toldScaling r
+        (Stored (now (w .exit)) (now (lambda .exit)) (now (u .exit)) (now (v .exit)) (now (eta .exit)) (now (d .exit)))
+        ≡ SocUpdateScaling (now (s .entry)) (now (z .entry)) (now (w .entry)) (now (lambda .entry)) (now (u .entry)) (now (v .entry))
+        (now (eta .entry)) (now (d .entry)) ⌝ }
 {
     let same = (z.len() == s.len())
         & (w.len() == s.len())

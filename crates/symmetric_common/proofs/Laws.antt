@@ -1,22 +1,17 @@
 -- What these calls write has n entries each, where what they are given has. Assumes nothing.
 use Prim.Native.Nat.{ℕ, _≤_}
-use native.Mathlib.Omega.{arith}
 use mathlib.Core.Path.{_≡_, _∙_}
 use mathlib.Core.List.{List, map}
-use lib.ListN.{length, length-drop}
+use lib.ListN.{length}
 use lib.Ieee.{Float, neg}
 use Rattle.vecmath.specs.Double.{𝟎, 𝟏}
 use Rattle.answers.specs.Refusal.{Same}
-use Rattle.soc_residual.specs.Residual.{UnitShift}
+use Rattle.soc_residual.proofs.Laws.{length-unit-shift}
 use Rattle.soc_products.proofs.Laws.{length-mul-w, length-mul-winv}
 use Rattle.soc_jordan.proofs.Laws.{length-circ}
 use Rattle.nn_scaling.proofs.Laws as unit
 use Rattle.nn_products.proofs.Laws as entrywise
 use Rattle.symmetric_common.specs.Combined.{CombinedShift, NonnegCombinedShift}
-
-pub length-unit-shift : {n : ℕ} (z : List Float) (α : Float) → 1 ≤ n → length z ≡ n → length (UnitShift z α) ≡ n
-unfolding UnitShift
-length-unit-shift z α h e = simp (length-drop) (omega arith)
 
 pub lengths-combined : {n : ℕ} (Δz Δs : List Float) (σμ : Float) (w : List Float) (η : Float) → 1 ≤ n → length Δz ≡ n → length Δs ≡ n → Same n (map length (CombinedShift Δz Δs σμ w η))
 unfolding CombinedShift

@@ -1,7 +1,6 @@
 -- `nn_scaling::nn_margins` meets its contract. Assumes nothing.
 use borrow.Author.Needs.{needs}
-use Rattle.answers.proofs.Laws.{outcomes}
-use Rattle.nn_scaling.proofs.Laws.{answers-as}
+use Rattle.answers.proofs.Laws.{answers-as, outcomes}
 use Rattle.nn_scaling.proofs.nn_margins.Statement.{statement}
 use Rattle.nn_scaling.proofs.nn_margins.Tie as tie
 

@@ -1,0 +1,2 @@
+-- `Worked`: document 01's T lines, computed.
+pub mod Worked
