@@ -99,6 +99,10 @@ fn time<A>(times: u64, f: &mut impl FnMut() -> A) -> f64 {
 }
 
 impl Bench {
+    fn wanted(&self, name: &str) -> bool {
+        self.words.is_empty() || self.words.iter().any(|word| name.contains(word.as_str()))
+    }
+
     // One run of one line. `parts` is how many calls a closure makes.
     fn pair<A, B>(
         &self,
@@ -108,7 +112,7 @@ impl Bench {
         mut rattle: impl FnMut() -> A,
         mut rust: impl FnMut() -> B,
     ) {
-        if !self.words.is_empty() && !self.words.iter().any(|word| name.contains(word.as_str())) {
+        if !self.wanted(name) {
             return;
         }
         let mut times = 1;
@@ -178,6 +182,10 @@ impl Lent {
         }
     }
 
+    fn one(y: &mut f64) -> Lent {
+        Lent::new(std::slice::from_mut(y))
+    }
+
     fn slice<'a>(self) -> &'a mut [f64] {
         unsafe { std::slice::from_raw_parts_mut(self.at, self.len) }
     }
@@ -192,8 +200,27 @@ fn vector(random: &mut Random, n: usize) -> Vec<f64> {
         .collect()
 }
 
+// bit for bit, all NaNs as one
 fn same(x: &[f64], y: &[f64]) -> bool {
-    x.len() == y.len() && std::iter::zip(x, y).all(|(x, y)| x.to_bits() == y.to_bits())
+    x.len() == y.len()
+        && std::iter::zip(x, y)
+            .all(|(x, y)| x.to_bits() == y.to_bits() || x.is_nan() && y.is_nan())
+}
+
+// ---- the cones, over the machine's root and over ours
+
+mod cones {
+    use clarabel as files;
+    const OVER: &str = "";
+    const EVERY: bool = true;
+    include!("cones.rs");
+}
+
+mod rooted {
+    use clarabel_rooted as files;
+    const OVER: &str = ", our root";
+    const EVERY: bool = false;
+    include!("cones.rs");
 }
 
 // ---- the lines
@@ -262,6 +289,10 @@ fn main() {
         let mut random = Random(1);
         helpers(&bench, &mut random);
         roots(&bench, &mut random);
+        cones::soc(&bench, &mut Random(2));
+        rooted::soc(&bench, &mut Random(2));
+        cones::nn(&bench, &mut Random(3));
+        rooted::nn(&bench, &mut Random(3));
     }
     println!(
         "{:24} {:>5} {:>12} {:>12} {:>8} {:>8} {:>8}",

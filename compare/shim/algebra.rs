@@ -32,6 +32,12 @@ pub trait FloatT:
     fn logsafe(self) -> Self;
 }
 
+// With --cfg akm_root the root is the proved one, so that a time can be told without the roots' share.
+#[cfg(akm_root)]
+extern "C" {
+    fn akm_sqrt(x: f64) -> f64;
+}
+
 impl FloatT for f64 {
     fn of(x: f64) -> f64 {
         x
@@ -54,8 +60,13 @@ impl FloatT for f64 {
     fn is_zero(&self) -> bool {
         *self == 0.0
     }
+    #[cfg(not(akm_root))]
     fn sqrt(self) -> f64 {
         f64::sqrt(self)
+    }
+    #[cfg(akm_root)]
+    fn sqrt(self) -> f64 {
+        unsafe { akm_sqrt(self) }
     }
     fn recip(self) -> f64 {
         1.0 / self

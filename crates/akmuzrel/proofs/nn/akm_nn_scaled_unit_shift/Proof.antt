@@ -1,0 +1,8 @@
+-- `akmuzrel::nn::akm_nn_scaled_unit_shift` meets its contract. Assumes nothing.
+use borrow.Author.Needs.{needs}
+use Rattle.codes.proofs.Laws.{exported}
+use Rattle.akmuzrel.proofs.nn.akm_nn_scaled_unit_shift.Statement.{statement}
+use Rattle.akmuzrel.proofs.nn.akm_nn_scaled_unit_shift.Tie as tie
+
+pub akm-nn-scaled-unit-shift-spec : {M : Type 1} → statement M
+akm-nn-scaled-unit-shift-spec = tie.close (tie.spec (λ c κs. search needs) (λ c κs. search needs) (λ c. search needs) (λ c. search exported))

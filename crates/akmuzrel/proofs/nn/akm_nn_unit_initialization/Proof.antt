@@ -1,0 +1,8 @@
+-- `akmuzrel::nn::akm_nn_unit_initialization` meets its contract. Assumes nothing.
+use borrow.Author.Needs.{needs}
+use Rattle.codes.proofs.Laws.{exported}
+use Rattle.akmuzrel.proofs.nn.akm_nn_unit_initialization.Statement.{statement}
+use Rattle.akmuzrel.proofs.nn.akm_nn_unit_initialization.Tie as tie
+
+pub akm-nn-unit-initialization-spec : {M : Type 1} → statement M
+akm-nn-unit-initialization-spec = tie.close (tie.spec (λ c κs. search needs) (λ c κs. search needs) (λ c. search needs) (λ c. search needs) (λ c. search exported))

@@ -1,0 +1,29 @@
+// The library for C: every bare call of both cones (crates export_soc and export_nn), and the three operations on numbers. include/akmuzrel.h
+// declares them. Of our own; nothing is ported.
+mod nn;
+mod soc;
+
+ghost use mathlib.Core.Path.{_≡_};
+ghost use Rattle.extrema.specs.Extrema.{Least, Greatest};
+ghost use Rattle.root.specs.Root.{Root};
+
+#[no_mangle]
+pub extern "C" fn akm_sqrt(x: f64) -> f64
+    ensures { λ r. ⌜ r ≡ Root x ⌝ }
+{
+    root::sqrt(x)
+}
+
+#[no_mangle]
+pub extern "C" fn akm_least(a: f64, b: f64) -> f64
+    ensures { λ r. ⌜ r ≡ Least a b ⌝ }
+{
+    extrema::least(a, b)
+}
+
+#[no_mangle]
+pub extern "C" fn akm_greatest(a: f64, b: f64) -> f64
+    ensures { λ r. ⌜ r ≡ Greatest a b ⌝ }
+{
+    extrema::greatest(a, b)
+}

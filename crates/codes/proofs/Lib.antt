@@ -1,0 +1,2 @@
+-- `Laws`: an enum's answer told as a number.
+pub mod Laws

@@ -1,0 +1,59 @@
+-- What a C export comes to: the refusal's number, 0 for none, what the numbers that it was lent for its answer then hold, and what the
+-- slices hold. It is read off what the bare call comes to. Assumes nothing.
+use Prim.Native.Nat.{ℕ}
+use mathlib.Core.Bool.{cond}
+use mathlib.Core.List.{List, [], _∷_}
+use lib.Ieee.{Float}
+use Rattle.answers.specs.Outcome.{Reply, done, margins, truth, number, lengths, stands, Ruling, gives, refuses, Contents, Came}
+use Rattle.answers.specs.declared.Standing.{Standing}
+use Rattle.answers.specs.declared.Standing.the-variants.{Inside, Edge, Outside, Mirrored, NotNumber}
+
+-- what a lent number holds: a double, or a small whole number
+pub data Value : Type 0 where
+  real : Float → Value
+  whole : ℕ → Value
+
+-- the number of a standing, in document 01's order
+abbrev pub StandingNumber : Standing → ℕ
+StandingNumber Inside = 0
+StandingNumber Edge = 1
+StandingNumber Outside = 2
+StandingNumber Mirrored = 3
+StandingNumber NotNumber = 4
+
+-- the values of an answer, in the order of the lent numbers; a scaling's true is 1, its false 0
+unfoldable pub Values : Reply → List Value
+Values done = []
+Values (margins α β) = real α ∷ real β ∷ []
+Values (truth t) = whole (cond t 1 0) ∷ []
+Values (number x) = real x ∷ []
+Values (lengths z s) = real z ∷ real s ∷ []
+Values (stands x) = whole (StandingNumber x) ∷ []
+
+-- the number that is returned, and what the lent numbers hold
+pub record Report : Type 0 where
+  pub number : ℕ
+  pub values : List Value
+
+-- an answer is number 0, with its values; a refusal is its number, and the lent numbers hold what they held
+unfoldable pub Reported : List Value → Ruling Reply → Report
+unfolding Values
+Reported old (gives reply) = record { number = 0; values = Values reply }
+Reported old (refuses k) = record { number = k; values = old }
+
+-- the whole export
+pub record Export : Type 0 where
+  pub report : Report
+  pub holds : Contents
+
+-- by what the lent numbers held and what the bare call comes to
+unfoldable pub Exported : List Value → Came → Export
+Exported old came = record { report = Reported old (came .ruling); holds = came .holds }
+
+-- ---- a contract's left side
+
+abbrev pub report : ℕ → List Value → Report
+report r values = record { number = r; values = values }
+
+abbrev pub export : ℕ → List Value → Contents → Export
+export r values exits = record { report = report r values; holds = exits }

@@ -1,0 +1,143 @@
+/* The cone kernels for C: every bare call of the second-order cone (akm_soc_..) and of the nonnegative
+   cone (akm_nn_..), and three operations on numbers. `rt staticlib akmuzrel` proves what stands here and
+   writes target/staticlib/libakmuzrel.a to link.
+
+   A vector is a pointer and its length. A call takes any lengths and any numbers, NaN included. Its
+   answer is the number of the first refusal that applies, AKM_DONE for none; a refused call has written
+   nothing. What is not const is written; it overlaps nothing else that the call is lent. A pointer may
+   be null only where its length is 0, and is aligned as a double is. The dimension n is the length of
+   the first vector, but of w in the calls of a block and of identity scaling; every other vector is
+   as long, but for the block itself. */
+#ifndef AKMUZREL_H
+#define AKMUZREL_H
+
+#include <stddef.h>
+#include <stdint.h>
+
+#ifdef __cplusplus
+extern "C" {
+#endif
+
+/* Refusals, by rank: 1, 7, 5, 6. Numbers 2, 3 and 4 belong to a list of cones, which is not exported. */
+enum akm_refusal {
+    AKM_DONE = 0,
+    AKM_BAD_DIMENSION = 1, /* second-order: below 2 or above 4,096; nonnegative: above 4,096 */
+    AKM_BAD_LENGTH = 5,    /* a vector has the wrong length */
+    AKM_BAD_LIMIT = 6,     /* a step's limit is NaN or below zero */
+    AKM_NOT_DENSE = 7      /* the square block is asked of a cone of more than 4 entries */
+};
+
+/* Where a point stands towards its cone. */
+enum akm_standing {
+    AKM_INSIDE = 0,
+    AKM_EDGE = 1,
+    AKM_OUTSIDE = 2,
+    AKM_MIRRORED = 3, /* second-order only: inside the cone's mirror image */
+    AKM_NOT_NUMBER = 4
+};
+
+/* ---- numbers */
+
+double akm_sqrt(double x);                /* the double nearest the root */
+double akm_least(double a, double b);     /* a NaN counts as missing; of two opposite zeros the first */
+double akm_greatest(double a, double b);
+
+/* ---- second-order: residuals, margins, unit */
+
+/* value = (z0 - |z1|) * (z0 + |z1|), z1 the entries from 1 on */
+uint8_t akm_soc_residual(const double *z, size_t z_len, double *value);
+/* the same at z + alpha*dz */
+uint8_t akm_soc_residual_shifted(const double *z, size_t z_len, const double *dz, size_t dz_len, double alpha, double *value);
+/* the residual's root where it is above 0, else 0 */
+uint8_t akm_sqrt_soc_residual(const double *z, size_t z_len, double *value);
+/* alpha = z0 - |z1|, beta = the greatest of 0 and alpha */
+uint8_t akm_soc_margins(const double *z, size_t z_len, double *alpha, double *beta);
+/* z += alpha*(1, 0, ..) */
+uint8_t akm_soc_scaled_unit_shift(double *z, size_t z_len, double alpha);
+/* z = s = (1, 0, ..) */
+uint8_t akm_soc_unit_initialization(double *z, size_t z_len, double *s, size_t s_len);
+/* standing = one of enum akm_standing */
+uint8_t akm_soc_standing(const double *z, size_t z_len, uint8_t *standing);
+
+/* ---- second-order: scaling. A cone stores w, lambda, u, v, eta, d; one of up to 4 entries, which is
+   dense, keeps u, v and d as they are. */
+
+uint8_t akm_soc_set_identity_scaling(double *w, size_t w_len, double *u, size_t u_len, double *v, size_t v_len, double *eta, double *d);
+/* told = 1, or 0 where s, z or w has no root scale: then w and eta may have been written, and no more */
+uint8_t akm_soc_update_scaling(const double *s, size_t s_len, const double *z, size_t z_len, double *w, size_t w_len, double *lambda, size_t lambda_len, double *u, size_t u_len, double *v, size_t v_len, double *eta, double *d, uint8_t *told);
+
+/* ---- second-order: the block Hs */
+
+/* hs has n numbers for n above 4, else n(n+1)/2: the upper triangle by columns */
+uint8_t akm_soc_get_hs(double *hs, size_t hs_len, const double *w, size_t w_len, const double *eta, const double *d);
+
+/* the block of a cone of up to 4 entries as a matrix, +0 beyond the dimension and where it is refused */
+struct akm_square {
+    uint8_t no; /* the refusal's number */
+    double rows[4][4];
+};
+struct akm_square akm_soc_square_hs(const double *w, size_t w_len, const double *eta);
+
+/* ---- second-order: products */
+
+/* y = alpha*W*x + beta*y, and with W's inverse */
+uint8_t akm_soc_mul_w(double *y, size_t y_len, const double *x, size_t x_len, double alpha, double beta, const double *w, size_t w_len, const double *eta);
+uint8_t akm_soc_mul_winv(double *y, size_t y_len, const double *x, size_t x_len, double alpha, double beta, const double *w, size_t w_len, const double *eta);
+/* y = Hs*x */
+uint8_t akm_soc_mul_hs(double *y, size_t y_len, const double *x, size_t x_len, const double *w, size_t w_len, const double *eta);
+/* x = the Jordan product of y and z; its inverse, the x whose product with y is z; that by lambda */
+uint8_t akm_soc_circ_op(double *x, size_t x_len, const double *y, size_t y_len, const double *z, size_t z_len);
+uint8_t akm_soc_inv_circ_op(double *x, size_t x_len, const double *y, size_t y_len, const double *z, size_t z_len);
+uint8_t akm_soc_lambda_inv_circ_op(double *x, size_t x_len, const double *z, size_t z_len, const double *lambda, size_t lambda_len);
+/* ds = lambda's product with itself */
+uint8_t akm_soc_affine_ds(double *ds, size_t ds_len, const double *lambda, size_t lambda_len);
+/* out = the constant part of Ds as a function of Dz */
+uint8_t akm_soc_ds_from_dz_offset(double *out, size_t out_len, const double *ds, size_t ds_len, const double *z, size_t z_len, const double *w, size_t w_len, const double *lambda, size_t lambda_len, const double *eta);
+
+/* shift = Ds*Dz - sigma_mu*(1, 0, ..), with Dz = W*step_z and Ds = W's inverse times step_s, which are left in step_z and step_s */
+uint8_t akm_soc_combined_ds_shift(double *shift, size_t shift_len, double *step_z, size_t step_z_len, double *step_s, size_t step_s_len, double sigma_mu, const double *w, size_t w_len, const double *eta);
+
+/* ---- second-order: steps */
+
+/* step = how far x may go along y, at most limit */
+uint8_t akm_soc_step(const double *x, size_t x_len, const double *y, size_t y_len, double limit, double *step);
+/* step_z = z along dz, step_s = s along ds */
+uint8_t akm_soc_step_length(const double *dz, size_t dz_len, const double *ds, size_t ds_len, const double *z, size_t z_len, const double *s, size_t s_len, double limit, double *step_z, double *step_s);
+
+/* ---- nonnegative: the same, entry by entry. A cone stores w and lambda. */
+
+/* alpha = the least entry, from infinity; beta = the sum of the entries above 0 */
+uint8_t akm_nn_margins(const double *z, size_t z_len, double *alpha, double *beta);
+/* z += alpha */
+uint8_t akm_nn_scaled_unit_shift(double *z, size_t z_len, double alpha);
+/* z = s = (1, 1, ..) */
+uint8_t akm_nn_unit_initialization(double *z, size_t z_len, double *s, size_t s_len);
+uint8_t akm_nn_standing(const double *z, size_t z_len, uint8_t *standing);
+/* w = (1, 1, ..) */
+uint8_t akm_nn_set_identity_scaling(double *w, size_t w_len);
+/* lambda = sqrt(s*z), w = sqrt(s/z); told = 1 */
+uint8_t akm_nn_update_scaling(const double *s, size_t s_len, const double *z, size_t z_len, double *w, size_t w_len, double *lambda, size_t lambda_len, uint8_t *told);
+/* hs = w*w */
+uint8_t akm_nn_get_hs(double *hs, size_t hs_len, const double *w, size_t w_len);
+/* y = w*(w*x) */
+uint8_t akm_nn_mul_hs(double *y, size_t y_len, const double *x, size_t x_len, const double *w, size_t w_len);
+/* ds = lambda*lambda */
+uint8_t akm_nn_affine_ds(double *ds, size_t ds_len, const double *lambda, size_t lambda_len);
+/* out = ds/z */
+uint8_t akm_nn_ds_from_dz_offset(double *out, size_t out_len, const double *ds, size_t ds_len, const double *z, size_t z_len);
+/* y = alpha*(x*w) + beta*y, and alpha*(x/w) + beta*y */
+uint8_t akm_nn_mul_w(double *y, size_t y_len, const double *x, size_t x_len, double alpha, double beta, const double *w, size_t w_len);
+uint8_t akm_nn_mul_winv(double *y, size_t y_len, const double *x, size_t x_len, double alpha, double beta, const double *w, size_t w_len);
+/* x = y*z; x = z/y; x = z/lambda */
+uint8_t akm_nn_circ_op(double *x, size_t x_len, const double *y, size_t y_len, const double *z, size_t z_len);
+uint8_t akm_nn_inv_circ_op(double *x, size_t x_len, const double *y, size_t y_len, const double *z, size_t z_len);
+uint8_t akm_nn_lambda_inv_circ_op(double *x, size_t x_len, const double *z, size_t z_len, const double *lambda, size_t lambda_len);
+uint8_t akm_nn_combined_ds_shift(double *shift, size_t shift_len, double *step_z, size_t step_z_len, double *step_s, size_t step_s_len, double sigma_mu, const double *w, size_t w_len);
+uint8_t akm_nn_step(const double *x, size_t x_len, const double *y, size_t y_len, double limit, double *step);
+uint8_t akm_nn_step_length(const double *dz, size_t dz_len, const double *ds, size_t ds_len, const double *z, size_t z_len, const double *s, size_t s_len, double limit, double *step_z, double *step_s);
+
+#ifdef __cplusplus
+}
+#endif
+
+#endif
