@@ -64,12 +64,9 @@ enum Kept {
     All,
 }
 
-type Soc1 = fn(&mut Soc, &mut Lent) -> Kept;
-type Nn1 = fn(&mut Nn, &mut Lent);
-
 enum Rust {
-    Soc(Soc1),
-    Nn(Nn1),
+    Soc(fn(&mut Soc, &mut Lent) -> Kept),
+    Nn(fn(&mut Nn, &mut Lent)),
     Number(fn(&mut Lent)),
 }
 
@@ -1139,11 +1136,13 @@ fn print(call: &Call, l: &Lent, found: &str) {
     println!("{}: {found}", call.name);
     let show = |x: &f64| format!("{x:?} ({:#018x})", x.to_bits());
     for (name, x) in std::iter::zip(&call.v, &l.v) {
+        let shown: Vec<_> = x.iter().take(16).map(show).collect();
+        let more = if x.len() > 16 { ", .." } else { "" };
         println!(
-            "    {} [{}] = {}",
+            "    {} [{}] = {}{more}",
             name.name,
             x.len(),
-            x.iter().map(show).collect::<Vec<_>>().join(", ")
+            shown.join(", ")
         );
     }
     for (name, x) in std::iter::zip(&call.a, &l.a).chain(std::iter::zip(&call.o, &l.o)) {
