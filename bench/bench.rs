@@ -2,7 +2,7 @@
 // asserted of a time; that both sides give the same bits is.
 //
 // Each line is two closures over the same inputs. They run in turns, a millisecond and more each,
-// and of 61 turns the least time counts: what else the machine does only adds to it. That is a run.
+// and of 41 turns the least time counts: what else the machine does only adds to it. That is a run.
 // There are RUNS of them, and a line tells the median time of a call on either side, the median of
 // the runs' ratios, Rattle's to Rust's, and the least and the most of these. Both sides are called
 // through a pointer that the compiler knows nothing of, so neither is fitted to the call.
@@ -49,7 +49,7 @@ fn sqrt_all(y: &mut [f64], x: &[f64]) {
 
 // ---- the clock
 
-const ROUNDS: usize = 61;
+const ROUNDS: usize = 41;
 const ROUND_NS: f64 = 1.5e6;
 
 // A run's two times of a call, in nanoseconds.

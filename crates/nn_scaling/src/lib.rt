@@ -16,7 +16,8 @@ ghost use Rattle.nn_scaling.specs.Scaling.{NonnegMargins, NonnegShift, N
 pub fn margins(z: &[f64]) -> Margins
     ensures { λ r. ⌜ ofMargins r ≡ gives (NonnegMargins (now (z .entry))) ⌝ }
 {
-    Margins::Are(folds::minimum(z), folds::positives(z))
+    let found = folds::bounds(z);
+    Margins::Are(found.least, found.sum)
 }
 
 pub fn nn_margins(z: &[f64]) -> Margins

@@ -51,9 +51,17 @@ pub fn step_length(dz: &[f64], ds: &[f64], z: &[f64], s: &[f64], limit: f64) -> 
     ensures { λ r. ⌜ lengths (r .z) (r .s)
         ≡ NonnegSteps Least (now (dz .entry)) (now (ds .entry)) (now (z .entry)) (now (s .entry)) limit ⌝ }
 {
+    let mut alpha_z = limit;
+    let mut alpha_s = limit;
+    let mut i = 0;
+    while i < dz.len() {
+        alpha_z = shorter(alpha_z, z[i], dz[i]);
+        alpha_s = shorter(alpha_s, s[i], ds[i]);
+        i += 1;
+    }
     StepPair {
-        z: step(z, dz, limit),
-        s: step(s, ds, limit),
+        z: alpha_z,
+        s: alpha_s,
     }
 }
 

@@ -1,0 +1,44 @@
+/* A scaling, a product, a step and a refusal, from C. examples/run builds and runs it. */
+#include <stdio.h>
+
+#include "akmuzrel.h"
+
+#define N 3
+
+static const char *standings[] = {"inside", "on the edge", "outside", "mirrored", "not a number"};
+
+static void print(const char *name, const double *x, size_t n) {
+    printf("%s = (", name);
+    for (size_t k = 0; k < n; k++) printf(k ? ", %.17g" : "%.17g", x[k]);
+    printf(")\n");
+}
+
+int main(void) {
+    const double s[N] = {5, 3, 0}, z[N] = {5, -3, 0}, ds[N] = {-1, 2, 0}, dz[N] = {1, 0, 2};
+    double w[N], lambda[N], u[N] = {0}, v[N] = {0}, eta, d = 1;
+    uint8_t told, standing;
+
+    akm_soc_standing(s, N, &standing);
+    printf("s is %s\n", standings[standing]);
+
+    if (akm_soc_update_scaling(s, N, z, N, w, N, lambda, N, u, N, v, N, &eta, &d, &told) != AKM_DONE || !told) return 1;
+    print("eta", &eta, 1);
+    print("w", w, N);
+    print("lambda", lambda, N);
+
+    double y[N] = {0};
+    akm_soc_mul_w(y, N, z, N, 1, 0, w, N, &eta);
+    print("W*z", y, N);
+
+    struct akm_square square = akm_soc_square_hs(w, N, &eta);
+    for (size_t row = 0; row < N; row++) print("Hs", square.rows[row], N);
+
+    double step_z, step_s;
+    akm_soc_step_length(dz, N, ds, N, z, N, s, N, 1, &step_z, &step_s);
+    printf("steps %.17g and %.17g\n", step_z, step_s);
+
+    /* a vector too short is refused, and y is as it was */
+    printf("refused with %d\n", akm_soc_mul_w(y, N, z, N - 1, 1, 0, w, N, &eta));
+    print("W*z", y, N);
+    return 0;
+}
