@@ -84,7 +84,7 @@ impl Line {
         let ratio = sorted(&self.runs, |t| t.rattle / t.rust);
         let (middle, last) = (ratio.len() / 2, ratio.len() - 1);
         println!(
-            "{:24} {:5} {:12.2} {:12.2} {:8.3} {:8.3} {:8.3}",
+            "{:33} {:5} {:12.2} {:12.2} {:8.3} {:8.3} {:8.3}",
             self.name, self.n, rattle[middle], rust[middle], ratio[middle], ratio[0], ratio[last]
         );
     }
@@ -203,8 +203,7 @@ fn vector(random: &mut Random, n: usize) -> Vec<f64> {
 // bit for bit, all NaNs as one
 fn same(x: &[f64], y: &[f64]) -> bool {
     x.len() == y.len()
-        && std::iter::zip(x, y)
-            .all(|(x, y)| x.to_bits() == y.to_bits() || x.is_nan() && y.is_nan())
+        && std::iter::zip(x, y).all(|(x, y)| x.to_bits() == y.to_bits() || x.is_nan() && y.is_nan())
 }
 
 // ---- the cones, over the machine's root and over ours
@@ -212,14 +211,14 @@ fn same(x: &[f64], y: &[f64]) -> bool {
 mod cones {
     use clarabel as files;
     const OVER: &str = "";
-    const EVERY: bool = true;
+    const ROOTS_ONLY: bool = false;
     include!("cones.rs");
 }
 
 mod rooted {
     use clarabel_rooted as files;
     const OVER: &str = ", our root";
-    const EVERY: bool = false;
+    const ROOTS_ONLY: bool = true;
     include!("cones.rs");
 }
 
@@ -295,7 +294,7 @@ fn main() {
         rooted::nn(&bench, &mut Random(3));
     }
     println!(
-        "{:24} {:>5} {:>12} {:>12} {:>8} {:>8} {:>8}",
+        "{:33} {:>5} {:>12} {:>12} {:>8} {:>8} {:>8}",
         "name", "n", "rattle_ns", "rust_ns", "ratio", "least", "most"
     );
     bench.lines.borrow().iter().for_each(Line::tell);

@@ -12,31 +12,48 @@ const SIZES: [usize; 4] = [3, 8, 64, 4096];
 const LIMIT: f64 = 1.0;
 const SETTINGS: CoreSettings<f64> = CoreSettings(std::marker::PhantomData);
 
+// A lent slice is a pointer and a length; a lent number is a pointer.
 type P = *mut f64;
+type N = usize;
 
-extern "C" {
-    fn akm_soc_mul_w(y: P, n: usize, x: P, xn: usize, a: f64, b: f64, w: P, wn: usize, eta: P) -> u8;
-    fn akm_soc_mul_winv(y: P, n: usize, x: P, xn: usize, a: f64, b: f64, w: P, wn: usize, eta: P) -> u8;
-    fn akm_soc_mul_hs(y: P, n: usize, x: P, xn: usize, w: P, wn: usize, eta: P) -> u8;
-    fn akm_soc_circ_op(x: P, n: usize, y: P, yn: usize, z: P, zn: usize) -> u8;
-    fn akm_soc_inv_circ_op(x: P, n: usize, y: P, yn: usize, z: P, zn: usize) -> u8;
-    fn akm_soc_get_hs(hs: P, n: usize, w: P, wn: usize, eta: P, d: P) -> u8;
-    fn akm_soc_ds_from_dz_offset(out: P, n: usize, ds: P, dsn: usize, z: P, zn: usize, w: P, wn: usize, lambda: P, ln: usize, eta: P) -> u8;
-    fn akm_soc_margins(z: P, n: usize, alpha: P, beta: P) -> u8;
-    fn akm_soc_step_length(dz: P, n: usize, ds: P, dsn: usize, z: P, zn: usize, s: P, sn: usize, limit: f64, step_z: P, step_s: P) -> u8;
-    fn akm_soc_combined_ds_shift(shift: P, n: usize, step_z: P, zn: usize, step_s: P, sn: usize, sigma_mu: f64, w: P, wn: usize, eta: P) -> u8;
-    fn akm_soc_update_scaling(s: P, n: usize, z: P, zn: usize, w: P, wn: usize, lambda: P, ln: usize, u: P, un: usize, v: P, vn: usize, eta: P, d: P, told: *mut u8) -> u8;
-    fn akm_nn_mul_w(y: P, n: usize, x: P, xn: usize, a: f64, b: f64, w: P, wn: usize) -> u8;
-    fn akm_nn_mul_winv(y: P, n: usize, x: P, xn: usize, a: f64, b: f64, w: P, wn: usize) -> u8;
-    fn akm_nn_mul_hs(y: P, n: usize, x: P, xn: usize, w: P, wn: usize) -> u8;
-    fn akm_nn_circ_op(x: P, n: usize, y: P, yn: usize, z: P, zn: usize) -> u8;
-    fn akm_nn_inv_circ_op(x: P, n: usize, y: P, yn: usize, z: P, zn: usize) -> u8;
-    fn akm_nn_get_hs(hs: P, n: usize, w: P, wn: usize) -> u8;
-    fn akm_nn_ds_from_dz_offset(out: P, n: usize, ds: P, dsn: usize, z: P, zn: usize) -> u8;
-    fn akm_nn_margins(z: P, n: usize, alpha: P, beta: P) -> u8;
-    fn akm_nn_step_length(dz: P, n: usize, ds: P, dsn: usize, z: P, zn: usize, s: P, sn: usize, limit: f64, step_z: P, step_s: P) -> u8;
-    fn akm_nn_combined_ds_shift(shift: P, n: usize, step_z: P, zn: usize, step_s: P, sn: usize, sigma_mu: f64, w: P, wn: usize) -> u8;
-    fn akm_nn_update_scaling(s: P, n: usize, z: P, zn: usize, w: P, wn: usize, lambda: P, ln: usize, told: *mut u8) -> u8;
+// The exports: `at::NAME()` is a pointer to the function that the compiler knows nothing of.
+macro_rules! exports {
+    ($($name:ident($($t:ty),*);)*) => {
+        extern "C" {
+            $(fn $name($(_: $t),*) -> u8;)*
+        }
+        mod at {
+            use super::*;
+            $(pub fn $name() -> unsafe extern "C" fn($($t),*) -> u8 {
+                black_box(super::$name)
+            })*
+        }
+    };
+}
+
+exports! {
+    akm_soc_mul_w(P, N, P, N, f64, f64, P, N, P);
+    akm_soc_mul_winv(P, N, P, N, f64, f64, P, N, P);
+    akm_soc_mul_hs(P, N, P, N, P, N, P);
+    akm_soc_circ_op(P, N, P, N, P, N);
+    akm_soc_inv_circ_op(P, N, P, N, P, N);
+    akm_soc_get_hs(P, N, P, N, P, P);
+    akm_soc_ds_from_dz_offset(P, N, P, N, P, N, P, N, P, N, P);
+    akm_soc_margins(P, N, P, P);
+    akm_soc_step_length(P, N, P, N, P, N, P, N, f64, P, P);
+    akm_soc_combined_ds_shift(P, N, P, N, P, N, f64, P, N, P);
+    akm_soc_update_scaling(P, N, P, N, P, N, P, N, P, N, P, N, P, P, *mut u8);
+    akm_nn_mul_w(P, N, P, N, f64, f64, P, N);
+    akm_nn_mul_winv(P, N, P, N, f64, f64, P, N);
+    akm_nn_mul_hs(P, N, P, N, P, N);
+    akm_nn_circ_op(P, N, P, N, P, N);
+    akm_nn_inv_circ_op(P, N, P, N, P, N);
+    akm_nn_get_hs(P, N, P, N);
+    akm_nn_ds_from_dz_offset(P, N, P, N, P, N);
+    akm_nn_margins(P, N, P, P);
+    akm_nn_step_length(P, N, P, N, P, N, P, N, f64, P, P);
+    akm_nn_combined_ds_shift(P, N, P, N, P, N, f64, P, N);
+    akm_nn_update_scaling(P, N, P, N, P, N, P, N, *mut u8);
 }
 
 type Soc = SecondOrderCone<f64>;
@@ -73,27 +90,43 @@ impl Calls<'_> {
         }
     }
 
-    // Both sides from the same contents: do they leave the same? Then they are timed. `settle` comes
-    // between, for a call that, made again and again, would not stay among ordinary numbers.
-    fn call(&self, name: &str, roots: bool, settle: impl Fn(), rattle: impl Fn() -> u8, rust: impl Fn()) {
-        let name = format!("{name}{OVER}");
-        if !(roots || EVERY) || !self.bench.wanted(&name) {
-            return;
-        }
+    // Both sides from the same contents: do they leave the same?
+    fn compare(&self, name: &str, rattle: &impl Fn() -> u8, rust: &impl Fn()) {
         let old = self.contents();
         assert_eq!(rattle(), 0, "{name}: refused");
         let found = self.contents();
         self.restore(&old);
         rust();
-        assert!(
-            std::iter::zip(&found, &self.contents()).all(|(x, y)| same(x, y)),
-            "{name} at {}: not the same",
-            self.n
-        );
+        let all = std::iter::zip(&found, &self.contents()).all(|(x, y)| same(x, y));
+        assert!(all, "{name} at {}: not the same", self.n);
         self.restore(&old);
+    }
+
+    // A call without roots.
+    fn call(&self, name: &str, rattle: impl Fn() -> u8, rust: impl Fn()) {
+        self.settled(name, || (), rattle, rust);
+    }
+
+    // The same, where `settle` comes before it is timed: made again and again, the call would else
+    // not stay among ordinary numbers.
+    fn settled(&self, name: &str, settle: impl Fn(), rattle: impl Fn() -> u8, rust: impl Fn()) {
+        if ROOTS_ONLY || !self.bench.wanted(name) {
+            return;
+        }
+        self.compare(name, &rattle, &rust);
+        let old = self.contents();
         settle();
-        self.bench.pair(&name, self.n, 1, rattle, rust);
+        self.bench.pair(name, self.n, 1, rattle, rust);
         self.restore(&old);
+    }
+
+    // A call with roots.
+    fn rooted(&self, name: &str, rattle: impl Fn() -> u8, rust: impl Fn()) {
+        let name = format!("{name}{OVER}");
+        if self.bench.wanted(&name) {
+            self.compare(&name, &rattle, &rust);
+            self.bench.pair(&name, self.n, 1, rattle, rust);
+        }
     }
 }
 
@@ -130,9 +163,17 @@ pub fn soc(bench: &Bench, random: &mut Random) {
 
         let c = Box::leak(Box::new(Soc::new(n)));
         c.update_scaling(s.slice(), z.slice(), 1.0, ScalingStrategy::PrimalDual);
-        let (w, l, eta) = (Lent::new(&mut c.w), Lent::new(&mut c.λ), Lent::one(&mut c.η));
+        let (w, l, eta) = (
+            Lent::new(&mut c.w),
+            Lent::new(&mut c.λ),
+            Lent::one(&mut c.η),
+        );
         let (u, v, d) = match &mut c.sparse_data {
-            Some(more) => (Lent::new(&mut more.u), Lent::new(&mut more.v), Lent::one(&mut more.d)),
+            Some(more) => (
+                Lent::new(&mut more.u),
+                Lent::new(&mut more.v),
+                Lent::one(&mut more.d),
+            ),
             None => (kept(vec![0.0; n]), kept(vec![0.0; n]), kept(vec![0.0])),
         };
         let c: *mut Soc = c;
@@ -140,75 +181,133 @@ pub fn soc(bench: &Bench, random: &mut Random) {
         let seen = vec![y, step_z, step_s, hs, pair, w, l, u, v, eta, d];
         let calls = Calls { bench, n, seen };
 
-        let f = black_box(akm_soc_mul_w as unsafe extern "C" fn(_, _, _, _, _, _, _, _, _) -> _);
-        let g = rust!(Soc, |c, y: Out, x: In, a: f64, b: f64| c.mul_W(MatrixShape::N, y, x, a, b));
-        calls.call("soc mul_w", false, || (),
+        let f = at::akm_soc_mul_w();
+        let g = rust!(Soc, |c, y: Out, x: In, a: f64, b: f64| c.mul_W(
+            MatrixShape::N,
+            y,
+            x,
+            a,
+            b
+        ));
+        calls.call(
+            "soc mul_w",
             || unsafe { f(y.at, n, z.at, n, 0.75, 0.5, w.at, n, eta.at) },
-            || g(cone(), y.slice(), z.slice(), 0.75, 0.5));
+            || g(cone(), y.slice(), z.slice(), 0.75, 0.5),
+        );
 
-        let f = black_box(akm_soc_mul_winv as unsafe extern "C" fn(_, _, _, _, _, _, _, _, _) -> _);
-        let g = rust!(Soc, |c, y: Out, x: In, a: f64, b: f64| c.mul_Winv(MatrixShape::N, y, x, a, b));
-        calls.call("soc mul_winv", false, || (),
+        let f = at::akm_soc_mul_winv();
+        let g = rust!(Soc, |c, y: Out, x: In, a: f64, b: f64| c.mul_Winv(
+            MatrixShape::N,
+            y,
+            x,
+            a,
+            b
+        ));
+        calls.call(
+            "soc mul_winv",
             || unsafe { f(y.at, n, z.at, n, 0.75, 0.5, w.at, n, eta.at) },
-            || g(cone(), y.slice(), z.slice(), 0.75, 0.5));
+            || g(cone(), y.slice(), z.slice(), 0.75, 0.5),
+        );
 
-        let f = black_box(akm_soc_mul_hs as unsafe extern "C" fn(_, _, _, _, _, _, _) -> _);
+        let f = at::akm_soc_mul_hs();
         let g = rust!(Soc, |c, y: Out, x: In| c.mul_Hs(y, x, &mut []));
-        calls.call("soc mul_hs", false, || (),
+        calls.call(
+            "soc mul_hs",
             || unsafe { f(y.at, n, z.at, n, w.at, n, eta.at) },
-            || g(cone(), y.slice(), z.slice()));
+            || g(cone(), y.slice(), z.slice()),
+        );
 
-        let f = black_box(akm_soc_circ_op as unsafe extern "C" fn(_, _, _, _, _, _) -> _);
+        let f = at::akm_soc_circ_op();
         let g = rust!(Soc, |c, x: Out, y: In, z: In| c.circ_op(x, y, z));
-        calls.call("soc circ_op", false, || (),
+        calls.call(
+            "soc circ_op",
             || unsafe { f(y.at, n, ds.at, n, z.at, n) },
-            || g(cone(), y.slice(), ds.slice(), z.slice()));
+            || g(cone(), y.slice(), ds.slice(), z.slice()),
+        );
 
-        let f = black_box(akm_soc_inv_circ_op as unsafe extern "C" fn(_, _, _, _, _, _) -> _);
+        let f = at::akm_soc_inv_circ_op();
         let g = rust!(Soc, |c, x: Out, y: In, z: In| c.inv_circ_op(x, y, z));
-        calls.call("soc inv_circ_op", true, || (),
+        calls.rooted(
+            "soc inv_circ_op",
             || unsafe { f(y.at, n, z.at, n, ds.at, n) },
-            || g(cone(), y.slice(), z.slice(), ds.slice()));
+            || g(cone(), y.slice(), z.slice(), ds.slice()),
+        );
 
-        let f = black_box(akm_soc_get_hs as unsafe extern "C" fn(_, _, _, _, _, _) -> _);
+        let f = at::akm_soc_get_hs();
         let g = rust!(Soc, |c, hs: Out| c.get_Hs(hs));
-        calls.call("soc get_hs", false, || (),
+        calls.call(
+            "soc get_hs",
             || unsafe { f(hs.at, hs.len, w.at, n, eta.at, d.at) },
-            || g(cone(), hs.slice()));
+            || g(cone(), hs.slice()),
+        );
 
-        let f = black_box(akm_soc_ds_from_dz_offset as unsafe extern "C" fn(_, _, _, _, _, _, _, _, _, _, _) -> _);
-        let g = rust!(Soc, |c, out: Out, ds: In, z: In| c.Δs_from_Δz_offset(out, ds, &mut [], z));
-        calls.call("soc ds_from_dz_offset", true, || (),
+        let f = at::akm_soc_ds_from_dz_offset();
+        let g = rust!(Soc, |c, out: Out, ds: In, z: In| c.Δs_from_Δz_offset(
+            out,
+            ds,
+            &mut [],
+            z
+        ));
+        calls.rooted(
+            "soc ds_from_dz_offset",
             || unsafe { f(y.at, n, ds.at, n, z.at, n, w.at, n, l.at, n, eta.at) },
-            || g(cone(), y.slice(), ds.slice(), z.slice()));
+            || g(cone(), y.slice(), ds.slice(), z.slice()),
+        );
 
-        let f = black_box(akm_soc_margins as unsafe extern "C" fn(_, _, _, _) -> _);
+        let f = at::akm_soc_margins();
         let g = rust!(Soc, |c, z: Out| c.margins(z, PrimalOrDualCone::PrimalCone));
-        calls.call("soc margins", true, || (),
+        calls.rooted(
+            "soc margins",
             || unsafe { f(z.at, n, p, q) },
-            || tell_both(pair, g(cone(), z.slice())));
+            || tell_both(pair, g(cone(), z.slice())),
+        );
 
-        let f = black_box(akm_soc_step_length as unsafe extern "C" fn(_, _, _, _, _, _, _, _, _, _, _) -> _);
-        let g = rust!(Soc, |c, dz: In, ds: In, z: In, s: In, limit: f64| c.step_length(dz, ds, z, s, &SETTINGS, limit));
-        calls.call("soc step_length", true, || (),
+        let f = at::akm_soc_step_length();
+        let g = rust!(Soc, |c, dz: In, ds: In, z: In, s: In, limit: f64| c
+            .step_length(dz, ds, z, s, &SETTINGS, limit));
+        calls.rooted(
+            "soc step_length",
             || unsafe { f(dz.at, n, ds.at, n, z.at, n, s.at, n, LIMIT, p, q) },
-            || tell_both(pair, g(cone(), dz.slice(), ds.slice(), z.slice(), s.slice(), LIMIT)));
+            || {
+                tell_both(
+                    pair,
+                    g(cone(), dz.slice(), ds.slice(), z.slice(), s.slice(), LIMIT),
+                )
+            },
+        );
 
-        let f = black_box(akm_soc_combined_ds_shift as unsafe extern "C" fn(_, _, _, _, _, _, _, _, _, _) -> _);
-        let g = rust!(Soc, |c, shift: Out, step_z: Out, step_s: Out, sigma_mu: f64| c.combined_ds_shift(shift, step_z, step_s, sigma_mu));
-        calls.call("soc combined_ds_shift", false, || cone().set_identity_scaling(),
+        let f = at::akm_soc_combined_ds_shift();
+        let g = rust!(Soc, |c,
+                            shift: Out,
+                            step_z: Out,
+                            step_s: Out,
+                            sigma_mu: f64| c
+            .combined_ds_shift(shift, step_z, step_s, sigma_mu));
+        calls.settled(
+            "soc combined_ds_shift",
+            || cone().set_identity_scaling(),
             || unsafe { f(y.at, n, step_z.at, n, step_s.at, n, 0.25, w.at, n, eta.at) },
-            || g(cone(), y.slice(), step_z.slice(), step_s.slice(), 0.25));
+            || g(cone(), y.slice(), step_z.slice(), step_s.slice(), 0.25),
+        );
 
-        let f = black_box(akm_soc_update_scaling as unsafe extern "C" fn(_, _, _, _, _, _, _, _, _, _, _, _, _, _, _) -> _);
-        let g = rust!(Soc, |c, s: In, z: In| c.update_scaling(s, z, 1.0, ScalingStrategy::PrimalDual));
-        calls.call("soc update_scaling", true, || (),
+        let f = at::akm_soc_update_scaling();
+        let g = rust!(Soc, |c, s: In, z: In| c.update_scaling(
+            s,
+            z,
+            1.0,
+            ScalingStrategy::PrimalDual
+        ));
+        calls.rooted(
+            "soc update_scaling",
             || unsafe {
-                let no = f(s.at, n, z.at, n, w.at, n, l.at, n, u.at, n, v.at, n, eta.at, d.at, told);
+                let no = f(
+                    s.at, n, z.at, n, w.at, n, l.at, n, u.at, n, v.at, n, eta.at, d.at, told,
+                );
                 tell(pair, *told);
                 no
             },
-            || tell(pair, g(cone(), s.slice(), z.slice()) as u8));
+            || tell(pair, g(cone(), s.slice(), z.slice()) as u8),
+        );
     }
 }
 
@@ -226,76 +325,136 @@ pub fn nn(bench: &Bench, random: &mut Random) {
         let (w, l) = (Lent::new(c.w()), Lent::new(c.λ()));
         let c: *mut Nn = c;
         let cone = || unsafe { &mut *c };
-        let calls = Calls { bench, n, seen: vec![y, step_z, step_s, pair, w, l] };
+        let calls = Calls {
+            bench,
+            n,
+            seen: vec![y, step_z, step_s, pair, w, l],
+        };
 
-        let f = black_box(akm_nn_mul_w as unsafe extern "C" fn(_, _, _, _, _, _, _, _) -> _);
-        let g = rust!(Nn, |c, y: Out, x: In, a: f64, b: f64| c.mul_W(MatrixShape::N, y, x, a, b));
-        calls.call("nn mul_w", false, || (),
+        let f = at::akm_nn_mul_w();
+        let g = rust!(Nn, |c, y: Out, x: In, a: f64, b: f64| c.mul_W(
+            MatrixShape::N,
+            y,
+            x,
+            a,
+            b
+        ));
+        calls.call(
+            "nn mul_w",
             || unsafe { f(y.at, n, z.at, n, 0.75, 0.5, w.at, n) },
-            || g(cone(), y.slice(), z.slice(), 0.75, 0.5));
+            || g(cone(), y.slice(), z.slice(), 0.75, 0.5),
+        );
 
-        let f = black_box(akm_nn_mul_winv as unsafe extern "C" fn(_, _, _, _, _, _, _, _) -> _);
-        let g = rust!(Nn, |c, y: Out, x: In, a: f64, b: f64| c.mul_Winv(MatrixShape::N, y, x, a, b));
-        calls.call("nn mul_winv", false, || (),
+        let f = at::akm_nn_mul_winv();
+        let g = rust!(Nn, |c, y: Out, x: In, a: f64, b: f64| c.mul_Winv(
+            MatrixShape::N,
+            y,
+            x,
+            a,
+            b
+        ));
+        calls.call(
+            "nn mul_winv",
             || unsafe { f(y.at, n, z.at, n, 0.75, 0.5, w.at, n) },
-            || g(cone(), y.slice(), z.slice(), 0.75, 0.5));
+            || g(cone(), y.slice(), z.slice(), 0.75, 0.5),
+        );
 
-        let f = black_box(akm_nn_mul_hs as unsafe extern "C" fn(_, _, _, _, _, _) -> _);
+        let f = at::akm_nn_mul_hs();
         let g = rust!(Nn, |c, y: Out, x: In| c.mul_Hs(y, x, &mut []));
-        calls.call("nn mul_hs", false, || (),
+        calls.call(
+            "nn mul_hs",
             || unsafe { f(y.at, n, z.at, n, w.at, n) },
-            || g(cone(), y.slice(), z.slice()));
+            || g(cone(), y.slice(), z.slice()),
+        );
 
-        let f = black_box(akm_nn_circ_op as unsafe extern "C" fn(_, _, _, _, _, _) -> _);
+        let f = at::akm_nn_circ_op();
         let g = rust!(Nn, |c, x: Out, y: In, z: In| c.circ_op(x, y, z));
-        calls.call("nn circ_op", false, || (),
+        calls.call(
+            "nn circ_op",
             || unsafe { f(y.at, n, ds.at, n, z.at, n) },
-            || g(cone(), y.slice(), ds.slice(), z.slice()));
+            || g(cone(), y.slice(), ds.slice(), z.slice()),
+        );
 
-        let f = black_box(akm_nn_inv_circ_op as unsafe extern "C" fn(_, _, _, _, _, _) -> _);
+        let f = at::akm_nn_inv_circ_op();
         let g = rust!(Nn, |c, x: Out, y: In, z: In| c.inv_circ_op(x, y, z));
-        calls.call("nn inv_circ_op", false, || (),
+        calls.call(
+            "nn inv_circ_op",
             || unsafe { f(y.at, n, z.at, n, ds.at, n) },
-            || g(cone(), y.slice(), z.slice(), ds.slice()));
+            || g(cone(), y.slice(), z.slice(), ds.slice()),
+        );
 
-        let f = black_box(akm_nn_get_hs as unsafe extern "C" fn(_, _, _, _) -> _);
+        let f = at::akm_nn_get_hs();
         let g = rust!(Nn, |c, hs: Out| c.get_Hs(hs));
-        calls.call("nn get_hs", false, || (),
+        calls.call(
+            "nn get_hs",
             || unsafe { f(y.at, n, w.at, n) },
-            || g(cone(), y.slice()));
+            || g(cone(), y.slice()),
+        );
 
-        let f = black_box(akm_nn_ds_from_dz_offset as unsafe extern "C" fn(_, _, _, _, _, _) -> _);
-        let g = rust!(Nn, |c, out: Out, ds: In, z: In| c.Δs_from_Δz_offset(out, ds, &mut [], z));
-        calls.call("nn ds_from_dz_offset", false, || (),
+        let f = at::akm_nn_ds_from_dz_offset();
+        let g = rust!(Nn, |c, out: Out, ds: In, z: In| c.Δs_from_Δz_offset(
+            out,
+            ds,
+            &mut [],
+            z
+        ));
+        calls.call(
+            "nn ds_from_dz_offset",
             || unsafe { f(y.at, n, ds.at, n, z.at, n) },
-            || g(cone(), y.slice(), ds.slice(), z.slice()));
+            || g(cone(), y.slice(), ds.slice(), z.slice()),
+        );
 
-        let f = black_box(akm_nn_margins as unsafe extern "C" fn(_, _, _, _) -> _);
+        let f = at::akm_nn_margins();
         let g = rust!(Nn, |c, z: Out| c.margins(z, PrimalOrDualCone::PrimalCone));
-        calls.call("nn margins", false, || (),
+        calls.call(
+            "nn margins",
             || unsafe { f(z.at, n, p, q) },
-            || tell_both(pair, g(cone(), z.slice())));
+            || tell_both(pair, g(cone(), z.slice())),
+        );
 
-        let f = black_box(akm_nn_step_length as unsafe extern "C" fn(_, _, _, _, _, _, _, _, _, _, _) -> _);
-        let g = rust!(Nn, |c, dz: In, ds: In, z: In, s: In, limit: f64| c.step_length(dz, ds, z, s, &SETTINGS, limit));
-        calls.call("nn step_length", false, || (),
+        let f = at::akm_nn_step_length();
+        let g = rust!(Nn, |c, dz: In, ds: In, z: In, s: In, limit: f64| c
+            .step_length(dz, ds, z, s, &SETTINGS, limit));
+        calls.call(
+            "nn step_length",
             || unsafe { f(dz.at, n, ds.at, n, z.at, n, s.at, n, LIMIT, p, q) },
-            || tell_both(pair, g(cone(), dz.slice(), ds.slice(), z.slice(), s.slice(), LIMIT)));
+            || {
+                tell_both(
+                    pair,
+                    g(cone(), dz.slice(), ds.slice(), z.slice(), s.slice(), LIMIT),
+                )
+            },
+        );
 
-        let f = black_box(akm_nn_combined_ds_shift as unsafe extern "C" fn(_, _, _, _, _, _, _, _, _) -> _);
-        let g = rust!(Nn, |c, shift: Out, step_z: Out, step_s: Out, sigma_mu: f64| c.combined_ds_shift(shift, step_z, step_s, sigma_mu));
-        calls.call("nn combined_ds_shift", false, || cone().set_identity_scaling(),
+        let f = at::akm_nn_combined_ds_shift();
+        let g = rust!(Nn, |c,
+                           shift: Out,
+                           step_z: Out,
+                           step_s: Out,
+                           sigma_mu: f64| c
+            .combined_ds_shift(shift, step_z, step_s, sigma_mu));
+        calls.settled(
+            "nn combined_ds_shift",
+            || cone().set_identity_scaling(),
             || unsafe { f(y.at, n, step_z.at, n, step_s.at, n, 0.25, w.at, n) },
-            || g(cone(), y.slice(), step_z.slice(), step_s.slice(), 0.25));
+            || g(cone(), y.slice(), step_z.slice(), step_s.slice(), 0.25),
+        );
 
-        let f = black_box(akm_nn_update_scaling as unsafe extern "C" fn(_, _, _, _, _, _, _, _, _) -> _);
-        let g = rust!(Nn, |c, s: In, z: In| c.update_scaling(s, z, 1.0, ScalingStrategy::PrimalDual));
-        calls.call("nn update_scaling", true, || (),
+        let f = at::akm_nn_update_scaling();
+        let g = rust!(Nn, |c, s: In, z: In| c.update_scaling(
+            s,
+            z,
+            1.0,
+            ScalingStrategy::PrimalDual
+        ));
+        calls.rooted(
+            "nn update_scaling",
             || unsafe {
                 let no = f(s.at, n, z.at, n, w.at, n, l.at, n, told);
                 tell(pair, *told);
                 no
             },
-            || tell(pair, g(cone(), s.slice(), z.slice()) as u8));
+            || tell(pair, g(cone(), s.slice(), z.slice()) as u8),
+        );
     }
 }

@@ -4,10 +4,11 @@
 
    A vector is a pointer and its length. A call takes any lengths and any numbers, NaN included. Its
    answer is the number of the first refusal that applies, AKM_DONE for none; a refused call has written
-   nothing. What is not const is written; it overlaps nothing else that the call is lent. A pointer may
-   be null only where its length is 0, and is aligned as a double is. The dimension n is the length of
-   the first vector, but of w in the calls of a block and of identity scaling; every other vector is
-   as long, but for the block itself. */
+   nothing. The caller owes this: no pointer is null, also where its length is 0; each is aligned and
+   has its length behind it; and what is not const overlaps nothing else that the call is lent.
+
+   The dimension n is the length of the first vector, but of w in the calls of a block and of identity
+   scaling; every other vector is as long, but for the block itself. */
 #ifndef AKMUZREL_H
 #define AKMUZREL_H
 
