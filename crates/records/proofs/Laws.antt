@@ -18,7 +18,7 @@ pub record Behind (list : List (List ℕ)) (k i : ℕ) (p : Place) : Type 0 wher
   pub along : Along i p
   pub left : FoldFrom (Cones (drop i list)) p ≡ FoldFrom (Cones list) (Opening (length list) k)
 
-length-cones : (list : List (List ℕ)) → length (Cones list) ≡ length list
+pub length-cones : (list : List (List ℕ)) → length (Cones list) ≡ length list
 length-cones [] = refl
 length-cones (r ∷ list) = ap suc (length-cones list)
 

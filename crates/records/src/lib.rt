@@ -20,7 +20,7 @@ fn kind_of(kind: usize, dimension: usize) -> Kind
     }
 }
 
-fn cone_of(r: [usize; 3]) -> Cone
+pub fn cone_of(r: [usize; 3]) -> Cone
     ensures { λ c. ⌜ c ≡ ConeOf r ⌝ }
 {
     Cone {

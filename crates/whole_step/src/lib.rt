@@ -12,15 +12,15 @@ ghost use Rattle.conecalls.specs.List.{ListStepLength};
 ghost use Rattle.whole_step.specs.Walk.{Opening, Reached, Taken, Further, Closing};
 
 // A walk on its way: the refusal that it met (0: none), the entries behind it, and each side's least so far.
-struct Walk {
-    no: u8,
-    total: usize,
-    z: f64,
-    s: f64,
+pub struct Walk {
+    pub no: u8,
+    pub total: usize,
+    pub z: f64,
+    pub s: f64,
 }
 
 // Before the first of so many records.
-fn opening(cones: usize, limit: f64) -> Walk
+pub fn opening(cones: usize, limit: f64) -> Walk
     ensures { λ r. ⌜ r ≡ Opening cones limit ⌝ }
 {
     Walk {
@@ -56,7 +56,7 @@ fn taken(w: Walk, kind: Kind, dz: &[f64], ds: &[f64], z: &[f64], s: &[f64], limi
 
 // Over one record more. Where a slice ends before the cone does, no step is taken: the call is then refused for that slice's length in the end, or
 // for a later record, which ranks before.
-fn further(w: Walk, c: Cone, dz: &[f64], ds: &[f64], z: &[f64], s: &[f64], limit: f64) -> Walk
+pub fn further(w: Walk, c: Cone, dz: &[f64], ds: &[f64], z: &[f64], s: &[f64], limit: f64) -> Walk
     ensures { λ r. ⌜ r ≡ Further w c (now (dz .entry)) (now (ds .entry)) (now (z .entry)) (now (s .entry)) limit ⌝ }
 {
     if w.no != 0 {
@@ -96,7 +96,7 @@ fn refusal(no: u8, same: bool, limit: f64) -> u8
 }
 
 // Behind the last record.
-fn closing(w: Walk, dz: &[f64], ds: &[f64], z: &[f64], s: &[f64], limit: f64) -> Steps
+pub fn closing(w: Walk, dz: &[f64], ds: &[f64], z: &[f64], s: &[f64], limit: f64) -> Steps
     ensures { λ r. ⌜ toldSteps r ≡ Closing w (now (dz .entry)) (now (ds .entry)) (now (z .entry)) (now (s .entry)) limit ⌝ }
 {
     let total = w.total;

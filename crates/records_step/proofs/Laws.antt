@@ -1,0 +1,42 @@
+-- How the walk over the row goes: behind i records it stands where the walk over document 01's list does. Assumes nothing.
+use Prim.Native.Nat.{ℕ, zero, suc, _+_, _≤_, _<_, zero-le}
+use native.Mathlib.Omega.{arith}
+use native.Mathlib.Nat.{le-antisymm}
+use mathlib.Core.Path.{_≡_, refl, sym, ap, _∙_}
+use mathlib.Core.List.{List, [], _∷_}
+use lib.ListN.{length, getD}
+use lib.Ieee.{Float}
+use Rattle.answers.specs.Outcome.{Came}
+use Rattle.conelist.specs.declared.Cone.{Cone}
+use Rattle.conelist.specs.Walk.{noCone}
+use Rattle.conecalls.specs.List.{ListStepLength}
+use Rattle.whole_step.specs.declared.Walk.{Walk}
+use Rattle.whole_step.specs.Walk.{Opening, Further, Closing}
+use Rattle.whole_step.proofs.Walked.{After, after-none, after-turn, walked}
+use Rattle.records.specs.Record.{ConeOf, Cones}
+use Rattle.records.proofs.Laws.{length-cones}
+
+cone-at : (list : List (List ℕ)) (i : ℕ) (d : List ℕ) → i < length list → ConeOf (getD list i d) ≡ getD (Cones list) i noCone
+cone-at [] i d l = absurd (omega arith)
+cone-at (r ∷ list) zero d l = refl
+cone-at (r ∷ list) (suc i) d l = cone-at list i d (omega arith)
+
+pub record Behind (list : List (List ℕ)) (dz ds z s : List Float) (αmax : Float) (i : ℕ) (w : Walk) : Type 0 where
+  pub within : i ≤ length list
+  pub so-far : w ≡ After (Cones list) dz ds z s αmax i
+
+module _ {list : List (List ℕ)} {dz ds z s : List Float} {αmax : Float} where
+  pub behind-start : {w : Walk} → w ≡ Opening (length list) αmax → Behind list dz ds z s αmax 0 w
+  behind-start e = record { within = zero-le; so-far = e ∙ ap (λ (n : ℕ). Opening n αmax) (sym (length-cones list)) ∙ sym (after-none (Cones list) dz ds z s αmax) }
+
+  pub behind-turn : {i : ℕ} {w w′ : Walk} {c : Cone} (d : List ℕ) → Behind list dz ds z s αmax i w → i < length list → c ≡ ConeOf (getD list i d) → w′ ≡ Further w c dz ds z s αmax → Behind list dz ds z s αmax (i + 1) w′
+  behind-turn {i} {w} {w′} d h l e f =
+      record {
+        within = omega arith;
+        so-far = after-turn (Cones list) dz ds z s αmax i w w′ (h .so-far) (f ∙ ap (λ (c : Cone). Further w c dz ds z s αmax) (e ∙ cone-at list i d l));
+      }
+
+  pub behind-end : {i : ℕ} {w : Walk} {came : Came} → Behind list dz ds z s αmax i w → length list ≤ i → came ≡ Closing w dz ds z s αmax → came ≡ ListStepLength (Cones list) dz ds z s αmax
+  behind-end {i} h l e =
+      e ∙ ap (λ (w : Walk). Closing w dz ds z s αmax) (h .so-far ∙ ap (After (Cones list) dz ds z s αmax) (le-antisymm (h .within) l ∙ sym (length-cones list)))
+      ∙ walked (Cones list) dz ds z s αmax
