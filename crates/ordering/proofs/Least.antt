@@ -2,7 +2,7 @@
 use mathlib.Core.Path.{_≡_, subst}
 use mathlib.Core.List.{List, [], _∷_, map, List·Permᴰ, List·Permᴰ·nil, List·Permᴰ·cons, List·Permᴰ·swap, List·Permᴰ·trans, Permᴰ·symm}
 use mathlib.Core.Logic.{_⊎_, inl, inr, _↔_}
-use Rattle.ordering.specs.Upto.{Over, Handed}
+use Rattle.ordering.specs.Upto.{Over, Handed, Passed, Limits}
 
 abbrev pub All : {A : Type 0} → (A → Type 0) → List A → Type 0
 All P [] = Unit {0}
@@ -96,6 +96,17 @@ module _ {A : Type 0} (_≼_ : A → A → Type 0) (_⊓_ : A → A → A) where
           let rest = handed r′ ss (meet o r (s r) (h .0) (bounds s (cs .0) r h .0), ed .chain r′ r i (lower r (s r) .0) (h .1)) (cs .1) in
           (ed .chain _ _ _ (rest .0) (over-mono r′ (r ⊓ s i) (map (λ s. s i) ss) fore), ed .chain _ _ _ (over-mono (r ⊓ s i) r′ (map (λ s. s i) ss) back) (rest .1))
 
+      -- a step's answer is such a limit again
+      next : (r : A) (step : A → A) → Limit r → Cuts step → Limit (step r)
+      next r step h c = let b = bounds step c r h in (b .0, ed .chain (step r) r i (b .1) (h .1))
+
+      passed : (r : A) (steps : List (A → A)) → Limit r → All Cuts steps → Passed r steps ≈ ends r steps
+      passed r [] h cs = (ed .self r, ed .self r)
+      passed r (s ∷ ss) h cs =
+          let e = cs .0 .least r h in
+          let rest = passed (s r) ss (next r s h (cs .0)) (cs .1) in
+          (ed .chain _ _ _ (rest .0) (over-mono (s r) (r ⊓ s i) (map (λ s. s i) ss) (e .0)), ed .chain _ _ _ (over-mono (r ⊓ s i) (s r) (map (λ s. s i) ss) (e .1)) (rest .1))
+
       at-limit : (z l : A) (steps : List (A → A)) → Limit l → All Cuts steps → z ≼ l → All (λ x. z ≼ x) (map (λ s. s l) steps) ↔ All (λ x. z ≼ x) (map (λ s. s i) steps)
       at-limit z l [] h cs e = (λ a. a, λ a. a)
       at-limit z l (s ∷ ss) h cs e =
@@ -119,6 +130,17 @@ module _ {A : Type 0} (_≼_ : A → A → Type 0) (_⊓_ : A → A → A) where
           let p = handed l steps h cs in
           let q = own-limit l steps h cs in
           (ed .chain _ _ _ (p .0) (q .1), ed .chain _ _ _ (q .0) (p .1))
+
+      -- and so does handing the answer itself on; each limit is then between o and i
+      pub passing-on : (l : A) (steps : List (A → A)) → Limit l → All Cuts steps → Passed l steps ≈ Over _⊓_ l (map (λ s. s l) steps)
+      passing-on l steps h cs =
+          let p = passed l steps h cs in
+          let q = own-limit l steps h cs in
+          (ed .chain _ _ _ (p .0) (q .1), ed .chain _ _ _ (q .0) (p .1))
+
+      pub limits : (l : A) (steps : List (A → A)) → Limit l → All Cuts steps → All Limit (Limits l steps)
+      limits l [] h cs = tt
+      limits l (s ∷ ss) h cs = (h, limits (s l) ss (next l s h (cs .0)) (cs .1))
 
       -- the list's step lies between o and i too
       pub within : (l : A) (steps : List (A → A)) → Limit l → All Cuts steps → Limit (Over _⊓_ l (map (λ s. s l) steps))

@@ -3,17 +3,17 @@
 use Prim.Native.Nat.{ℕ, zero, suc}
 use mathlib.Core.Path.{_≡_, refl, sym, ap, _∙_}
 use mathlib.Core.Bool.{Bool, true, false, not, cond, false≢true, true≢false, Bool-set}
-use mathlib.Core.List.{List, [], _∷_, _++_, map-append, Perm, Permᴰ·map}
+use mathlib.Core.List.{List, [], _∷_, _++_, map, map-append, Perm, Permᴰ·map}
 use mathlib.Core.Logic.{∥∥₁-elim}
 use mathlib.Core.HLevel.{×₃-prop}
 use borrow.Author.Tests.{not-true}
 use lib.Ieee.{Float, nan, inf, fin, isNan, lt, le, eq, ofBits}
 use Rattle.vecmath.specs.Vector.{Each, Fold}
 use Rattle.vecmath.specs.Double.{𝟎, ∞}
-use Rattle.ordering.specs.Upto.{Upto, SameValue, Over, Handed, ListStep}
+use Rattle.ordering.specs.Upto.{Upto, SameValue, Over, Handed, ListStep, Passed, Limits}
 use Rattle.ordering.proofs.Order.{nan-is, nan-lt, eq-is, le-is}
-use Rattle.ordering.proofs.Least.{All, Edition, one-value, Limit, bounds, within, handing-on}
-use Rattle.ordering.proofs.Shortens.{UpTo, chain, Shortens, zero-up-to}
+use Rattle.ordering.proofs.Least.{All, Edition, over-lower, one-value, Limit, bounds, within, handing-on, passing-on, limits}
+use Rattle.ordering.proofs.Shortens.{UpTo, self, chain, Shortens, zero-up-to}
 
 -- ---- one value
 
@@ -56,6 +56,26 @@ limit-up-to low (inf true) u = refl
 limit-up-to low (inf false) u = refl
 limit-up-to low (fin s m e) u = refl
 
+-- what is up to a number is one, where a NaN counts as above all numbers
+below-number : (low : Bool) (x y : Float) → low ≡ false → UpTo low x y → isNan y ≡ false → isNan x ≡ false
+unfolding Upto
+below-number low x y w = go low (isNan x) (isNan y) w
+  where
+    go : (w p q : Bool) → w ≡ false → cond p (cond q true w) (cond q (not w) (not (lt y x))) ≡ true → q ≡ false → p ≡ false
+    go w true true u e v = absurd (true≢false v)
+    go true true false u e v = absurd (true≢false u)
+    go false true false u e v = absurd (false≢true e)
+    go w false q u e v = refl
+
+zero-number : isNan 𝟎 ≡ false
+unfolding isNan ofBits
+zero-number = refl
+
+from-zero : (low : Bool) (x : Float) → UpTo low 𝟎 x → UpTo low x ∞ → le 𝟎 x ≡ true
+from-zero low x e f =
+    let u = number low x e f in
+    le-is 𝟎 x zero-number u ∙ ap not (not-above low 𝟎 x zero-number u e)
+
 -- ---- for each edition of least
 
 module _ (low : Bool) (_⊓_ : Float → Float → Float) (ed : Edition (UpTo low) _⊓_) (limit : Float) where
@@ -64,6 +84,14 @@ module _ (low : Bool) (_⊓_ : Float → Float → Float) (ed : Edition (UpTo lo
   any-order p = ∥∥₁-elim p (×₃-prop (Bool-set _ _) (Bool-set _ _) (Bool-set _ _)) (λ d.
       let v = one-value (UpTo low) _⊓_ ed limit (Permᴰ·map (λ step. step limit) d) in
       same-value low _ _ (v .0) (v .1))
+
+  -- where a NaN is passed over, the least of numbers and a limit that is one is a number
+  is-number : low ≡ false → isNan limit ≡ false → (xs : List Float) → isNan (Over _⊓_ limit xs) ≡ false
+  is-number w num xs = below-number low _ limit w (over-lower (UpTo low) _⊓_ ed limit xs _ (self low (Over _⊓_ limit xs)) .0) num
+
+  -- so it then has one value by comparison
+  pub any-order-number : low ≡ false → isNan limit ≡ false → {steps steps′ : List (Float → Float)} → Perm steps steps′ → eq (ListStep _⊓_ limit steps) (ListStep _⊓_ limit steps′) ≡ true
+  any-order-number w num {steps′ = steps′} p = by-value _ _ (is-number w num (map (λ s. s limit) steps′)) (any-order p)
 
   -- a limit that is not refused
   module _ (num : isNan limit ≡ false) (least : lt limit 𝟎 ≡ false) where
@@ -77,13 +105,27 @@ module _ (low : Bool) (_⊓_ : Float → Float → Float) (ed : Edition (UpTo lo
         let w = within (UpTo low) _⊓_ ed 𝟎 ∞ limit steps admitted h in
         by-value _ _ (number low _ (w .0) (w .1)) (same-value low _ _ (v .0) (v .1))
 
+    -- with the answer itself handed on; each limit is then a number that is not below 0
+    pub passed-on : (steps : List (Float → Float)) → All (Shortens low _⊓_ ed) steps → eq (Passed limit steps) (ListStep _⊓_ limit steps) ≡ true
+    passed-on steps h =
+        let v = passing-on (UpTo low) _⊓_ ed 𝟎 ∞ limit steps admitted h in
+        let w = within (UpTo low) _⊓_ ed 𝟎 ∞ limit steps admitted h in
+        by-value _ _ (number low _ (w .0) (w .1)) (same-value low _ _ (v .0) (v .1))
+
+    pub limits-admitted : (steps : List (Float → Float)) → All (Shortens low _⊓_ ed) steps → All (λ l. le 𝟎 l ≡ true) (Limits limit steps)
+    limits-admitted steps h = all-of (Limits limit steps) (limits (UpTo low) _⊓_ ed 𝟎 ∞ limit steps admitted h)
+      where
+        all-of : (ls : List Float) → All (Limit (UpTo low) _⊓_ ed 𝟎 ∞) ls → All (λ l. le 𝟎 l ≡ true) ls
+        all-of [] h = tt
+        all-of (l ∷ ls) h = (from-zero low l (h .0 .0) (h .0 .1), all-of ls (h .1))
+
     -- a cone's step lies between 0 and its limit
     pub between : (step : Float → Float) → Shortens low _⊓_ ed step → (le 𝟎 (step limit) ≡ true) × (le (step limit) limit ≡ true)
     between step h =
         let b = bounds (UpTo low) _⊓_ ed 𝟎 ∞ step h limit admitted in
-        let u = number low (step limit) (b .0) (chain low (step limit) limit ∞ (b .1) (admitted .1)) in
-        let zero : isNan 𝟎 ≡ false = unfold isNan ofBits in refl in
-        (le-is 𝟎 (step limit) zero u ∙ ap not (not-above low 𝟎 (step limit) zero u (b .0)), le-is (step limit) limit u num ∙ ap not (not-above low (step limit) limit u num (b .1)))
+        let most = chain low (step limit) limit ∞ (b .1) (admitted .1) in
+        let u = number low (step limit) (b .0) most in
+        (from-zero low (step limit) (b .0) most, le-is (step limit) limit u num ∙ ap not (not-above low (step limit) limit u num (b .1)))
 
 -- ---- as loops: the list's step, and the step with the running least handed on
 
