@@ -7,3 +7,5 @@ pub mod Local
 pub mod Lengths
 pub mod Demand3
 pub mod Contracts
+pub mod Sides
+pub mod Needed

@@ -22,21 +22,9 @@ use Rattle.conelist.specs.Layout.{Dim, LeastDim, BlockDim, KindAt, Before, BadP
 use Rattle.conelist.proofs.Laid as listing
 use Rattle.conelist.proofs.Placed.{open-at}
 use Rattle.conecalls.specs.At.{Use, entries, number, block, Wide, Own, Back, Backs, First}
-use Rattle.orders.specs.Local.{Name, Store, Name-discrete, UseOf, Lend, Pick, Gives, Deed, Refused, ComesTo, Answer, After}
+use Rattle.orders.specs.Local.{Name, Store, Name-discrete, UseOf, Long, Start, Lend, Pick, Gives, Deed, Refused, ComesTo, Answer, After}
 use Rattle.orders.proofs.Rearrange.{Separate}
 use Rattle.orders.proofs.Ranges.{length-part, length-put, part-put, part-put-before, part-put-behind}
-
--- ---- a cone's own range of a buffer: how long it is, and where it begins
-
-abbrev pub Long : Kind → Use → ℕ
-Long kind entries = Dim kind
-Long kind number = 1
-Long kind block = BlockDim kind
-
-abbrev Start : Place → Use → ℕ
-Start p entries = p .start
-Start p number = p .index
-Start p block = p .block
 
 -- ---- what is asked of a rule: where it is given ranges of the right lengths, it gives such ranges
 

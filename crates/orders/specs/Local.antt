@@ -9,7 +9,7 @@ use Rattle.answers.specs.Refusal.{Unlike}
 use Rattle.answers.specs.Outcome.{Ruling, Outcome, Contents, Call}
 use Rattle.conelist.specs.declared.Kind.{Kind}
 use Rattle.conelist.specs.declared.Place.{Place}
-use Rattle.conelist.specs.Layout.{Spot, AllFit}
+use Rattle.conelist.specs.Layout.{Dim, BlockDim, Spot, AllFit}
 use Rattle.conecalls.specs.At.{Use, entries, number, block, Lent, Wide, Own, Backs, First}
 
 -- ---- buffers: "each with one use throughout", so that its name tells its use: a number per entry, a number per cone, or the blocks
@@ -22,6 +22,17 @@ abbrev pub UseOf : Name → Use
 UseOf (per-entry i) = entries
 UseOf (per-cone i) = number
 UseOf (blocks i) = block
+
+-- a cone's own range of a buffer: how long it is, and where it begins
+abbrev pub Long : Kind → Use → ℕ
+Long kind entries = Dim kind
+Long kind number = 1
+Long kind block = BlockDim kind
+
+abbrev pub Start : Place → Use → ℕ
+Start p entries = p .start
+Start p number = p .index
+Start p block = p .block
 
 -- what all buffers hold
 abbrev pub Store : Type 0

@@ -1,11 +1,11 @@
--- One side's step over a list: each cone's own step, and the condition of demand 3. Assumes nothing.
+-- One side's step over a list, for any order in which the cones are visited, and the condition of demand 3. Assumes nothing.
 use Prim.Native.Nat.{ℕ}
-use mathlib.Core.List.{List}
+use mathlib.Core.List.{List, map}
 use lib.ListN.{length}
 use lib.Ieee.{Float}
 use Rattle.extrema.specs.Extrema.{Least}
 use Rattle.vecmath.specs.Vector.{Each}
-use Rattle.ordering.specs.Upto.{Handed, ListStep}
+use Rattle.ordering.specs.Upto.{Handed, ListStep, Passed, Limits}
 use Rattle.nn_step.specs.Step.{NoneBelow}
 use Rattle.conelist.specs.declared.Kind.{Kind}
 use Rattle.conelist.specs.declared.Kind.the-variants.{Nonnegative, SecondOrder}
@@ -13,18 +13,34 @@ use Rattle.conelist.specs.declared.Cone.{Cone}
 use Rattle.conelist.specs.Layout.{KindAt, Row, Of}
 use Rattle.conecalls.specs.Kinds.{KindStep}
 
+-- the cones of a list in its own order: 0, 1, 2, ..
+abbrev pub InOrder : List Cone → List ℕ
+InOrder list = Each (length list) (λ k. k)
+
+-- a side is a point z and its direction dz: z along dz, or s along ds
 module _ (list : List Cone) (dz z : List Float) where
-  -- the step of each cone, on its own ranges of the point z and the direction dz: a function of its limit
-  abbrev pub SideSteps : List (Float → Float)
-  SideSteps = Each (length list) (λ k. KindStep (KindAt list k) (Of (Row list k) dz) (Of (Row list k) z))
+  -- the step of cone k, on its own ranges, by its limit
+  abbrev pub StepAt : ℕ → Float → Float
+  StepAt k = KindStep (KindAt list k) (Of (Row list k) dz) (Of (Row list k) z)
 
--- of steps in the order in which the cones are visited: "each cone gets the caller's αmax, and each side's least is the answer"
-abbrev pub SideStep : Float → List (Float → Float) → Float
-SideStep αmax steps = ListStep Least αmax steps
+  -- "Over a list each cone gets the caller's αmax, and each side's least is the answer", the cones in the list's order
+  abbrev pub ListSide : (αmax : Float) → Float
+  ListSide αmax = ListStep Least αmax (Each (length list) StepAt)
 
--- the same with the running least handed on as the next limit
-abbrev pub SideHanded : Float → List (Float → Float) → Float
-SideHanded αmax steps = Handed Least αmax steps
+  -- the same, the cones visited in the order ks
+  abbrev pub VisitedStep : (ks : List ℕ) (αmax : Float) → Float
+  VisitedStep ks αmax = ListStep Least αmax (map StepAt ks)
+
+  -- each cone gets the least so far as its limit
+  abbrev pub HandedStep : (ks : List ℕ) (αmax : Float) → Float
+  HandedStep ks αmax = Handed Least αmax (map StepAt ks)
+
+  -- each cone gets the answer of the one before, and no least is taken: the last answer counts. The limits that the cones get so
+  abbrev pub PassedStep : (ks : List ℕ) (αmax : Float) → Float
+  PassedStep ks αmax = Passed αmax (map StepAt ks)
+
+  abbrev pub PassedLimits : (ks : List ℕ) (αmax : Float) → List Float
+  PassedLimits ks αmax = Limits αmax (map StepAt ks)
 
 -- "no nonnegative-cone entry of the points is below zero"
 abbrev pub NonnegAt : Kind → List Float → Type 0
