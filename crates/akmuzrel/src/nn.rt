@@ -3,7 +3,8 @@
 ghost use mathlib.Core.Path.{_≡_};
 ghost use mathlib.Core.List.{[], _∷_};
 ghost use Rattle.nn_scaling.specs.Scaling.{NnMargins, NnScaledUnitShift, NnUnitInitialization, NnSetIdentityScaling, NnUpdateScaling, NnGetHs};
-ghost use Rattle.nn_products.specs.Products.{NnMulHs, NnAffineDs, NnDsFromDzOffset, NnMulW, NnMulWinv, NnCircOp, NnInvCircOp, NnLambdaInvCircOp};
+ghost use Rattle.nn_products.specs.Products.{NnMulHs, NnDsFromDzOffset, NnMulW, NnMulWinv};
+ghost use Rattle.nn_jordan.specs.Jordan.{NnAffineDs, NnCircOp, NnInvCircOp, NnLambdaInvCircOp};
 ghost use Rattle.nn_step.specs.Step.{NnStep, NnStepLength};
 ghost use Rattle.symmetric_common.specs.Combined.{NnCombinedDsShift};
 ghost use Rattle.standing.specs.Standing.{NnStands};
@@ -71,7 +72,7 @@ pub extern "C" fn akm_nn_mul_hs(y: &mut [f64], x: &[f64], w: &[f64]) -> u8
 pub extern "C" fn akm_nn_affine_ds(ds: &mut [f64], lambda: &[f64]) -> u8
     ensures { λ r. ⌜ export r [] (now (ds .exit) ∷ []) ≡ Exported [] (NnAffineDs (now (ds .entry)) (now (lambda .entry))) ⌝ }
 {
-    codes::answer(nn_products::nn_affine_ds(ds, lambda))
+    codes::answer(nn_jordan::nn_affine_ds(ds, lambda))
 }
 
 #[no_mangle]
@@ -102,14 +103,14 @@ pub extern "C" fn akm_nn_mul_winv(y: &mut [f64], x: &[f64], alpha: f64, beta: f6
 pub extern "C" fn akm_nn_circ_op(x: &mut [f64], y: &[f64], z: &[f64]) -> u8
     ensures { λ r. ⌜ export r [] (now (x .exit) ∷ []) ≡ Exported [] (NnCircOp (now (x .entry)) (now (y .entry)) (now (z .entry))) ⌝ }
 {
-    codes::answer(nn_products::nn_circ_op(x, y, z))
+    codes::answer(nn_jordan::nn_circ_op(x, y, z))
 }
 
 #[no_mangle]
 pub extern "C" fn akm_nn_inv_circ_op(x: &mut [f64], y: &[f64], z: &[f64]) -> u8
     ensures { λ r. ⌜ export r [] (now (x .exit) ∷ []) ≡ Exported [] (NnInvCircOp (now (x .entry)) (now (y .entry)) (now (z .entry))) ⌝ }
 {
-    codes::answer(nn_products::nn_inv_circ_op(x, y, z))
+    codes::answer(nn_jordan::nn_inv_circ_op(x, y, z))
 }
 
 #[no_mangle]
@@ -117,7 +118,7 @@ pub extern "C" fn akm_nn_lambda_inv_circ_op(x: &mut [f64], z: &[f64], lambda: &[
     ensures { λ r. ⌜ export r [] (now (x .exit) ∷ [])
         ≡ Exported [] (NnLambdaInvCircOp (now (x .entry)) (now (z .entry)) (now (lambda .entry))) ⌝ }
 {
-    codes::answer(nn_products::nn_lambda_inv_circ_op(x, z, lambda))
+    codes::answer(nn_jordan::nn_lambda_inv_circ_op(x, z, lambda))
 }
 
 #[no_mangle]

@@ -18,7 +18,8 @@ use Rattle.soc_offset.specs.Offset.{Offset}
 use Rattle.soc_jordan.specs.Jordan.{Circ, InvCirc}
 use Rattle.soc_step.specs.Step.{SocStepBy}
 use Rattle.nn_scaling.specs.Scaling.{NonnegShift, NonnegUnit, NonnegLambda, NonnegW, NonnegHs, NonnegMargins}
-use Rattle.nn_products.specs.Products.{NonnegMulHs, NonnegAffineDs, NonnegOffset, NonnegMulW, NonnegMulWinv, NonnegCirc, NonnegInvCirc}
+use Rattle.nn_products.specs.Products.{NonnegMulHs, NonnegOffset, NonnegMulW, NonnegMulWinv}
+use Rattle.nn_jordan.specs.Jordan.{NonnegAffineDs, NonnegCirc, NonnegInvCirc}
 use Rattle.nn_step.specs.Step.{NonnegStep}
 use Rattle.symmetric_common.specs.Combined.{CombinedShift, NonnegCombinedShift}
 use Rattle.standing.specs.Standing.{SocStanding, NonnegStanding}

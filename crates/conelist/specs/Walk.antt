@@ -44,6 +44,6 @@ Closing p = cond (eqb (p .no) 0) (Found (cond (ltb (p .index) (p .count)) 0 4) p
 
 -- what a walk that is on its way has: its sums stay small
 pub record Going (p : Place) : Type 0 where
-  pub counted : p .count < 2 ^ 63
+  pub counted : p .count + 1 < 2 ^ 64
   pub held : p .blocks ≤ 3 * p .entries
   pub few : p .entries ≤ 65536

@@ -96,7 +96,7 @@ fn record_refusal(total: usize, c: Cone) -> u8
 }
 
 // The walk for cone k of a list of so many cones, before its first record: none is counted yet.
-fn opening(cones: usize, k: usize) -> Place
+pub fn opening(cones: usize, k: usize) -> Place
     ensures { λ r. ⌜ r ≡ Opening cones k ⌝ }
 {
     if 256 < cones {
@@ -115,7 +115,7 @@ fn opening(cones: usize, k: usize) -> Place
 }
 
 // The walk over one record more.
-fn step(p: Place, c: Cone) -> Place
+pub fn step(p: Place, c: Cone) -> Place
     requires { ⌜ Going p ⌝ }
     ensures { λ r. ⌜ r ≡ StepOf p c ⌝ }
 {
@@ -156,7 +156,7 @@ fn step(p: Place, c: Cone) -> Place
 }
 
 // The walk behind its last record: the cone is in the list, or it is not.
-fn closing(p: Place) -> Place
+pub fn closing(p: Place) -> Place
     ensures { λ r. ⌜ r ≡ Closing p ⌝ }
 {
     if p.no != 0 {

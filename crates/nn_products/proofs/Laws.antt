@@ -3,17 +3,13 @@ use mathlib.Core.Path.{_≡_}
 use mathlib.Core.List.{List}
 use lib.ListN.{length}
 use lib.Ieee.{Float}
-use Rattle.vecmath.specs.Vector.{Products, Quotients}
+use Rattle.vecmath.specs.Vector.{Quotients}
 use Rattle.vecmath.proofs.Loops.{length-each}
-use Rattle.nn_products.specs.Products.{NonnegMulHs, NonnegAffineDs, NonnegOffset, NonnegMulW, NonnegMulWinv, NonnegCirc, NonnegInvCirc}
+use Rattle.nn_products.specs.Products.{NonnegMulHs, NonnegOffset, NonnegMulW, NonnegMulWinv}
 
 pub length-mul-hs : (x w : List Float) → length (NonnegMulHs x w) ≡ length x
 unfolding NonnegMulHs
 length-mul-hs x w = length-each _ _
-
-pub length-affine-ds : (lambda : List Float) → length (NonnegAffineDs lambda) ≡ length lambda
-unfolding Products
-length-affine-ds lambda = length-each _ _
 
 pub length-offset : (ds z : List Float) → length (NonnegOffset ds z) ≡ length ds
 unfolding Quotients
@@ -26,11 +22,3 @@ length-mul-w y x α β w = length-each _ _
 pub length-mul-winv : (y x : List Float) (α β : Float) (w : List Float) → length (NonnegMulWinv y x α β w) ≡ length y
 unfolding NonnegMulWinv
 length-mul-winv y x α β w = length-each _ _
-
-pub length-circ : (y z : List Float) → length (NonnegCirc y z) ≡ length y
-unfolding Products
-length-circ y z = length-each _ _
-
-pub length-inv-circ : (y z : List Float) → length (NonnegInvCirc y z) ≡ length z
-unfolding Quotients
-length-inv-circ y z = length-each _ _

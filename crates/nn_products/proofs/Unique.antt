@@ -5,14 +5,11 @@ use lib.Ieee.{Float}
 use Rattle.answers.specs.declared.Answer.{Answer}
 use Rattle.answers.specs.Outcome.{Contents, told}
 use Rattle.answers.proofs.Unique.{one-answer}
-use Rattle.nn_products.specs.Products.{NnMulHs, NnAffineDs, NnDsFromDzOffset, NnMulW, NnMulWinv, NnCircOp, NnInvCircOp, NnLambdaInvCircOp}
+use Rattle.nn_products.specs.Products.{NnMulHs, NnDsFromDzOffset, NnMulW, NnMulWinv}
 
 module _ {r r′ : Answer} {e e′ : Contents} where
   nn-mul-hs : (y x w : List Float) → told r e ≡ NnMulHs y x w → told r′ e′ ≡ NnMulHs y x w → (r ≡ r′) × (e ≡ e′)
   nn-mul-hs y x w = one-answer
-
-  nn-affine-ds : (ds lambda : List Float) → told r e ≡ NnAffineDs ds lambda → told r′ e′ ≡ NnAffineDs ds lambda → (r ≡ r′) × (e ≡ e′)
-  nn-affine-ds ds lambda = one-answer
 
   nn-ds-from-dz-offset : (out ds z : List Float) → told r e ≡ NnDsFromDzOffset out ds z → told r′ e′ ≡ NnDsFromDzOffset out ds z → (r ≡ r′) × (e ≡ e′)
   nn-ds-from-dz-offset out ds z = one-answer
@@ -22,12 +19,3 @@ module _ {r r′ : Answer} {e e′ : Contents} where
 
   nn-mul-winv : (y x : List Float) (α β : Float) (w : List Float) → told r e ≡ NnMulWinv y x α β w → told r′ e′ ≡ NnMulWinv y x α β w → (r ≡ r′) × (e ≡ e′)
   nn-mul-winv y x α β w = one-answer
-
-  nn-circ-op : (x y z : List Float) → told r e ≡ NnCircOp x y z → told r′ e′ ≡ NnCircOp x y z → (r ≡ r′) × (e ≡ e′)
-  nn-circ-op x y z = one-answer
-
-  nn-inv-circ-op : (x y z : List Float) → told r e ≡ NnInvCircOp x y z → told r′ e′ ≡ NnInvCircOp x y z → (r ≡ r′) × (e ≡ e′)
-  nn-inv-circ-op x y z = one-answer
-
-  nn-lambda-inv-circ-op : (x z lambda : List Float) → told r e ≡ NnLambdaInvCircOp x z lambda → told r′ e′ ≡ NnLambdaInvCircOp x z lambda → (r ≡ r′) × (e ≡ e′)
-  nn-lambda-inv-circ-op x z lambda = one-answer

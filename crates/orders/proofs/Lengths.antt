@@ -16,6 +16,7 @@ use Rattle.soc_offset.proofs.Laws.{length-offset}
 use Rattle.soc_jordan.proofs.Laws.{length-circ, length-inv-circ}
 use Rattle.nn_scaling.proofs.Laws as unit
 use Rattle.nn_products.proofs.Laws as entrywise
+use Rattle.nn_jordan.proofs.Laws as jordan
 use Rattle.symmetric_common.specs.Combined.{CombinedShift, NonnegCombinedShift}
 use Rattle.symmetric_common.proofs.Laws.{lengths-combined, lengths-nonneg-combined}
 use Rattle.conelist.specs.declared.Kind.{Kind}
@@ -61,7 +62,7 @@ mul-hs (SecondOrder n) x w η of-x of-w = length-mul-hs x w η of-w
 
 pub affine-ds : (kind : Kind) (lambda : List Float) → LeastDim kind ≤ Dim kind → length lambda ≡ Dim kind → length (KindAffineDs kind lambda) ≡ Dim kind
 unfolding KindAffineDs
-affine-ds (Nonnegative n) lambda h of-lambda = entrywise.length-affine-ds lambda ∙ of-lambda
+affine-ds (Nonnegative n) lambda h of-lambda = jordan.length-affine-ds lambda ∙ of-lambda
 affine-ds (SecondOrder n) lambda h of-lambda = length-circ lambda lambda (some h) of-lambda
 
 three : {n a b c : ℕ} → Same n (a ∷ b ∷ c ∷ []) → a ∷ b ∷ c ∷ [] ≡ n ∷ n ∷ n ∷ []
@@ -90,10 +91,10 @@ mul-winv (SecondOrder n) y x α β w η h of-y of-x = length-mul-winv y x α β 
 
 pub circ : (kind : Kind) (y z : List Float) → LeastDim kind ≤ Dim kind → length y ≡ Dim kind → length z ≡ Dim kind → length (KindCirc kind y z) ≡ Dim kind
 unfolding KindCirc
-circ (Nonnegative n) y z h of-y of-z = entrywise.length-circ y z ∙ of-y
+circ (Nonnegative n) y z h of-y of-z = jordan.length-circ y z ∙ of-y
 circ (SecondOrder n) y z h of-y of-z = length-circ y z (some h) of-z
 
 pub inv-circ : (kind : Kind) (y z : List Float) → LeastDim kind ≤ Dim kind → length y ≡ Dim kind → length z ≡ Dim kind → length (KindInvCirc kind y z) ≡ Dim kind
 unfolding KindInvCirc
-inv-circ (Nonnegative n) y z h of-y of-z = entrywise.length-inv-circ y z ∙ of-z
+inv-circ (Nonnegative n) y z h of-y of-z = jordan.length-inv-circ y z ∙ of-z
 inv-circ (SecondOrder n) y z h of-y of-z = length-inv-circ y z (some h) of-y

@@ -11,6 +11,7 @@ use Rattle.soc_products.proofs.Laws.{length-mul-w, length-mul-winv}
 use Rattle.soc_jordan.proofs.Laws.{length-circ}
 use Rattle.nn_scaling.proofs.Laws as unit
 use Rattle.nn_products.proofs.Laws as entrywise
+use Rattle.nn_jordan.proofs.Laws as jordan
 use Rattle.symmetric_common.specs.Combined.{CombinedShift, NonnegCombinedShift}
 
 pub lengths-combined : {n : ℕ} (Δz Δs : List Float) (σμ : Float) (w : List Float) (η : Float) → 1 ≤ n → length Δz ≡ n → length Δs ≡ n → Same n (map length (CombinedShift Δz Δs σμ w η))
@@ -23,4 +24,4 @@ pub lengths-nonneg-combined : {n : ℕ} (Δz Δs : List Float) (σμ : Float) (w
 unfolding NonnegCombinedShift
 lengths-nonneg-combined Δz Δs σμ w e f =
     let s = entrywise.length-mul-winv Δs Δs 𝟏 𝟎 w ∙ f in
-    (unit.length-shift (neg σμ) _ ∙ entrywise.length-circ _ _ ∙ s, (entrywise.length-mul-w Δz Δz 𝟏 𝟎 w ∙ e, (s, tt)))
+    (unit.length-shift (neg σμ) _ ∙ jordan.length-circ _ _ ∙ s, (entrywise.length-mul-w Δz Δz 𝟏 𝟎 w ∙ e, (s, tt)))

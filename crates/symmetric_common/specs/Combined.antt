@@ -11,7 +11,8 @@ use Rattle.soc_residual.specs.Residual.{UnitShift}
 use Rattle.soc_products.specs.Product.{MulW, MulWinv}
 use Rattle.soc_jordan.specs.Jordan.{Circ}
 use Rattle.nn_scaling.specs.Scaling.{NonnegShift}
-use Rattle.nn_products.specs.Products.{NonnegMulW, NonnegMulWinv, NonnegCirc}
+use Rattle.nn_products.specs.Products.{NonnegMulW, NonnegMulWinv}
+use Rattle.nn_jordan.specs.Jordan.{NonnegCirc}
 
 -- ---- the values
 

@@ -76,7 +76,7 @@ pub fn nn_combined(
     vecmath::copy_from(shift, step_s);
     nn_products::mul_winv(step_s, shift, 1.0, 0.0, w);
     // shift = W⁻¹Δs ∘ WΔz − σμ·e
-    nn_products::circ_op(shift, step_s, step_z);
+    nn_jordan::circ_op(shift, step_s, step_z);
     nn_scaling::scaled_unit_shift(shift, -sigma_mu);
 }
 

@@ -1,8 +1,8 @@
--- `nn_products::nn_lambda_inv_circ_op` meets its contract. Assumes nothing.
+-- `nn_jordan::nn_lambda_inv_circ_op` meets its contract. Assumes nothing.
 use borrow.Author.Needs.{needs}
 use Rattle.answers.proofs.Laws.{fit, outcomes}
-use Rattle.nn_products.proofs.nn_lambda_inv_circ_op.Statement.{statement}
-use Rattle.nn_products.proofs.nn_lambda_inv_circ_op.Tie as tie
+use Rattle.nn_jordan.proofs.nn_lambda_inv_circ_op.Statement.{statement}
+use Rattle.nn_jordan.proofs.nn_lambda_inv_circ_op.Tie as tie
 
 pub nn-lambda-inv-circ-op-spec : {M : Type 1} → statement M
 nn-lambda-inv-circ-op-spec =

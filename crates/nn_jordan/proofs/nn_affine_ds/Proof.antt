@@ -1,8 +1,8 @@
--- `nn_products::nn_affine_ds` meets its contract. Assumes nothing.
+-- `nn_jordan::nn_affine_ds` meets its contract. Assumes nothing.
 use borrow.Author.Needs.{needs}
 use Rattle.answers.proofs.Laws.{fit, outcomes}
-use Rattle.nn_products.proofs.nn_affine_ds.Statement.{statement}
-use Rattle.nn_products.proofs.nn_affine_ds.Tie as tie
+use Rattle.nn_jordan.proofs.nn_affine_ds.Statement.{statement}
+use Rattle.nn_jordan.proofs.nn_affine_ds.Tie as tie
 
 pub nn-affine-ds-spec : {M : Type 1} → statement M
 nn-affine-ds-spec =

@@ -1,0 +1,2 @@
+-- `Laws`: how the walk over the row goes.
+pub mod Laws
