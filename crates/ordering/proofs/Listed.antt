@@ -12,7 +12,7 @@ use Rattle.vecmath.specs.Vector.{Each, Fold}
 use Rattle.vecmath.specs.Double.{𝟎, ∞}
 use Rattle.ordering.specs.Upto.{Upto, SameValue, Over, Handed, ListStep, Passed, Limits}
 use Rattle.ordering.proofs.Order.{nan-is, nan-lt, eq-is, le-is}
-use Rattle.ordering.proofs.Least.{All, Edition, over-lower, one-value, Limit, bounds, within, handing-on, passing-on, limits}
+use Rattle.ordering.proofs.Least.{All, Edition, over-lower, one-value, Limit, Trims, bounds, within, handing-on, passing-on, limits}
 use Rattle.ordering.proofs.Shortens.{UpTo, self, chain, Shortens, zero-up-to}
 
 -- ---- one value
@@ -85,25 +85,21 @@ module _ (low : Bool) (_⊓_ : Float → Float → Float) (ed : Edition (UpTo lo
       let v = one-value (UpTo low) _⊓_ ed limit (Permᴰ·map (λ step. step limit) d) in
       same-value low _ _ (v .0) (v .1))
 
-  -- where a NaN is passed over, the least of numbers and a limit that is one is a number
-  is-number : low ≡ false → isNan limit ≡ false → (xs : List Float) → isNan (Over _⊓_ limit xs) ≡ false
+  -- where a NaN is passed over and the limit is a number, so is the least
+  pub is-number : low ≡ false → isNan limit ≡ false → (xs : List Float) → isNan (Over _⊓_ limit xs) ≡ false
   is-number w num xs = below-number low _ limit w (over-lower (UpTo low) _⊓_ ed limit xs _ (self low (Over _⊓_ limit xs)) .0) num
 
-  -- so it then has one value by comparison
-  pub any-order-number : low ≡ false → isNan limit ≡ false → {steps steps′ : List (Float → Float)} → Perm steps steps′ → eq (ListStep _⊓_ limit steps) (ListStep _⊓_ limit steps′) ≡ true
-  any-order-number w num {steps′ = steps′} p = by-value _ _ (is-number w num (map (λ s. s limit) steps′)) (any-order p)
+  -- with the running least handed on, where the least is a number
+  pub handed-on : isNan limit ≡ false → (steps : List (Float → Float)) → isNan (ListStep _⊓_ limit steps) ≡ false → All (Trims (UpTo low) _⊓_ ed ∞) steps
+      → eq (Handed _⊓_ limit steps) (ListStep _⊓_ limit steps) ≡ true
+  handed-on num steps of-least h =
+      let v = handing-on (UpTo low) _⊓_ ed ∞ limit steps (limit-up-to low limit num) h in
+      by-value _ _ of-least (same-value low _ _ (v .0) (v .1))
 
   -- a limit that is not refused
   module _ (num : isNan limit ≡ false) (least : lt limit 𝟎 ≡ false) where
     admitted : Limit (UpTo low) _⊓_ ed 𝟎 ∞ limit
     admitted = (zero-up-to low limit least (λ e. num), limit-up-to low limit num)
-
-    -- with the running least handed on
-    pub handed-on : (steps : List (Float → Float)) → All (Shortens low _⊓_ ed) steps → eq (Handed _⊓_ limit steps) (ListStep _⊓_ limit steps) ≡ true
-    handed-on steps h =
-        let v = handing-on (UpTo low) _⊓_ ed 𝟎 ∞ limit steps admitted h in
-        let w = within (UpTo low) _⊓_ ed 𝟎 ∞ limit steps admitted h in
-        by-value _ _ (number low _ (w .0) (w .1)) (same-value low _ _ (v .0) (v .1))
 
     -- with the answer itself handed on; each limit is then a number that is not below 0
     pub passed-on : (steps : List (Float → Float)) → All (Shortens low _⊓_ ed) steps → eq (Passed limit steps) (ListStep _⊓_ limit steps) ≡ true

@@ -8,13 +8,13 @@ use mathlib.Core.List.{List, [], _∷_, map, map-append, Perm, Perm·map}
 use lib.ListN.{length}
 use lib.Ieee.{Float, nan, inf, fin, isNan, lt, le, eq, ofBits}
 use Rattle.extrema.specs.Extrema.{Least}
-use Rattle.vecmath.specs.Double.{𝟎}
+use Rattle.vecmath.specs.Double.{𝟎, ∞}
 use Rattle.vecmath.specs.Vector.{Each}
 use Rattle.answers.specs.Refusal.{BadLimit}
 use Rattle.ordering.proofs.Order.{le-is, eq-trans}
-use Rattle.ordering.proofs.Least.{All}
-use Rattle.ordering.proofs.Shortens.{document-01, Shortens, at-least-zero}
-use Rattle.ordering.proofs.Listed.{any-order-number, handed-on, passed-on, limits-admitted}
+use Rattle.ordering.proofs.Least.{All, Trims}
+use Rattle.ordering.proofs.Shortens.{UpTo, document-01, Shortens, at-least-zero}
+use Rattle.ordering.proofs.Listed.{by-value, any-order, is-number, handed-on, passed-on, limits-admitted}
 use Rattle.soc_step.proofs.Laws as soc
 use Rattle.nn_step.proofs.Laws as nonneg
 use Rattle.conelist.specs.declared.Kind.{Kind}
@@ -24,11 +24,17 @@ use Rattle.conelist.specs.Layout.{KindAt}
 use Rattle.conecalls.specs.Kinds.{KindStep, KindStepBy}
 use Rattle.orders.specs.Sides.{InOrder, StepAt, ListSide, VisitedStep, HandedStep, PassedStep, PassedLimits, NonnegAt, NonnegEntries}
 
--- each kind's step is the least of its limit and what it is without one
+-- each kind's step is the least of its limit and what it is without one, where no nonnegative entry is below zero; and it always counts as
+-- much beside its limit as it does without one
 kind-shortens : (kind : Kind) (dz z : List Float) → NonnegAt kind z → Shortens false Least document-01 (KindStep kind dz z)
 unfolding KindStepBy
 kind-shortens (Nonnegative n) dz z h = nonneg.shortens false Least document-01 𝟎 dz z h (λ e. absurd (false≢true e))
 kind-shortens (SecondOrder n) dz z h = soc.shortens false Least document-01 𝟎 z dz (λ e. absurd (false≢true e))
+
+kind-trims : (kind : Kind) (dz z : List Float) → Trims (UpTo false) Least document-01 ∞ (KindStep kind dz z)
+unfolding KindStepBy
+kind-trims (Nonnegative n) dz z = nonneg.trims false Least document-01 dz z
+kind-trims (SecondOrder n) dz z = soc.trims false Least document-01 z dz
 
 all-map : {A B : Type 0} (P : B → Type 0) (f : A → B) → ((a : A) → P (f a)) → (l : List A) → All P (map f l)
 all-map P f h [] = tt
@@ -82,21 +88,27 @@ module _ (list : List Cone) (dz z : List Float) (αmax : Float) (zero-or-more : 
   admitted : lt αmax 𝟎 ≡ false
   admitted = at-least-zero αmax zero-or-more
 
+  -- a least of numbers
+  of-least : (ks : List ℕ) → isNan (VisitedStep list dz z ks αmax) ≡ false
+  of-least ks = is-number false Least document-01 αmax refl number (map (λ step. step αmax) (steps ks))
+
   -- a side's step over the list has one value by comparison
   pub one-value : (ks : List ℕ) → Perm ks (InOrder list) → eq (VisitedStep list dz z ks αmax) (ListSide list dz z αmax) ≡ true
   one-value ks p =
-      rw (← (in-order (StepAt list dz z) (length list))) (any-order-number false Least document-01 αmax refl number {steps = steps ks} {steps′ = steps (InOrder list)} (Perm·map (StepAt list dz z) p))
+      rw (← (in-order (StepAt list dz z) (length list)))
+      (by-value _ _ (of-least (InOrder list)) (any-order false Least document-01 αmax {steps = steps ks} {steps′ = steps (InOrder list)} (Perm·map (StepAt list dz z) p)))
 
-  -- if no nonnegative-cone entry of the point is below zero
+  -- handing the running least on as the next limit gives that value, for any point
+  pub handed : (ks : List ℕ) → Perm ks (InOrder list) → eq (HandedStep list dz z ks αmax) (ListSide list dz z αmax) ≡ true
+  handed ks p =
+      let trim = all-map (Trims (UpTo false) Least document-01 ∞) (StepAt list dz z) (λ k. kind-trims (KindAt list k) _ _) ks in
+      eq-trans _ (VisitedStep list dz z ks αmax) _ (handed-on false Least document-01 αmax number (steps ks) (of-least ks) trim) (one-value ks p)
+
+  -- if no nonnegative-cone entry of the point is below zero, so does handing each answer on by itself; and no limit is then refused
   module _ (h : NonnegEntries list z) where
     shorten : (ks : List ℕ) → All (Shortens false Least document-01) (steps ks)
     shorten ks = all-map (Shortens false Least document-01) (StepAt list dz z) (λ k. kind-shortens (KindAt list k) _ _ (h k)) ks
 
-    -- handing the running least on as the next limit gives that value
-    pub handed : (ks : List ℕ) → Perm ks (InOrder list) → eq (HandedStep list dz z ks αmax) (ListSide list dz z αmax) ≡ true
-    handed ks p = eq-trans _ (VisitedStep list dz z ks αmax) _ (handed-on false Least document-01 αmax number admitted (steps ks) (shorten ks)) (one-value ks p)
-
-    -- and so does handing each answer on by itself; no limit is then refused
     pub passed : (ks : List ℕ) → Perm ks (InOrder list) → eq (PassedStep list dz z ks αmax) (ListSide list dz z αmax) ≡ true
     passed ks p = eq-trans _ (VisitedStep list dz z ks αmax) _ (passed-on false Least document-01 αmax number admitted (steps ks) (shorten ks)) (one-value ks p)
 
