@@ -1,3 +1,4 @@
 pub mod At
 pub mod Kinds
 pub mod Calls
+pub mod List

@@ -72,7 +72,7 @@ fit-and t (m ∷ ms) e =
     let b = both t (eqb (m .0) (m .1)) (r .0) in
     (b .0, (eqb-true (m .0) (m .1) (b .1), r .1))
 
-all-fit : (ms : List (ℕ × ℕ)) → AllFit ms ≡ true → Fits ms
+pub all-fit : (ms : List (ℕ × ℕ)) → AllFit ms ≡ true → Fits ms
 all-fit [] e = tt
 all-fit (m ∷ ms) e = let r = fit-and (eqb (m .0) (m .1)) ms e in (eqb-true (m .0) (m .1) (r .0), r .1)
 

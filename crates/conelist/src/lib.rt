@@ -80,7 +80,7 @@ fn alone(no: u8) -> Place
 }
 
 // The refusals of a record that stands behind `total` entries.
-fn record_refusal(total: usize, c: Cone) -> u8
+pub fn record_refusal(total: usize, c: Cone) -> u8
     ensures { λ r. ⌜ r ≡ BadRecord total c ⌝ }
 {
     let kind = c.kind;

@@ -1,0 +1,110 @@
+// The step lengths and the standing of one cone of a list (document 01, "Second-order rules", "Nonnegative rules" and "Standing"; source documents
+// 000, lines 289 to 304 and 421 to 496, and 001, step_length), over the cone's place. For each: by the cone's kind, on the cone's own ranges, and
+// the call.
+use answers::Standing;
+use answers::Stands;
+use answers::StepPair;
+use answers::Steps;
+use conelist::Kind;
+use conelist::Place;
+ghost use mathlib.Core.Path.{_≡_};
+ghost use mathlib.Core.List.{[], _∷_};
+ghost use lib.ListN.{length};
+ghost use Rattle.answers.specs.Refusal.{_⊳_, Unlike, BadLimit, Fit};
+ghost use Rattle.answers.specs.Outcome.{lengths, toldSteps, toldStands};
+ghost use Rattle.conelist.specs.Layout.{LeastDim, Spot, Open, Of};
+ghost use Rattle.conecalls.specs.Kinds.{KindStep, KindStanding};
+ghost use Rattle.conecalls.specs.Calls.{StepLengthAt, StandingAt};
+
+// ---- the step lengths, z side and s side
+
+pub fn kind_step_length(
+    kind: Kind,
+    dz: &[f64],
+    ds: &[f64],
+    z: &[f64],
+    s: &[f64],
+    limit: f64,
+) -> StepPair
+    requires { ⌜ Fit (LeastDim kind) (length (now dz)) (length (now ds) ∷ length (now z) ∷ length (now s) ∷ []) ⌝ }
+    ensures { λ r. ⌜ lengths (r .z) (r .s)
+        ≡ lengths (KindStep kind (now (dz .entry)) (now (z .entry)) limit) (KindStep kind (now (ds .entry)) (now (s .entry)) limit) ⌝ }
+{
+    match kind {
+        Kind::Nonnegative(n) => nn_step::step_length(dz, ds, z, s, limit),
+        Kind::SecondOrder(n) => soc_step::step_length(dz, ds, z, s, limit),
+    }
+}
+
+fn step_length_in(p: Place, dz: &[f64], ds: &[f64], z: &[f64], s: &[f64], limit: f64) -> StepPair
+    requires { ⌜ Open p ((length (now dz), p .entries) ∷ (length (now ds), p .entries) ∷ (length (now z), p .entries) ∷ (length (now s), p .entries) ∷ []) ⌝ }
+    ensures { λ r. ⌜ lengths (r .z) (r .s)
+        ≡ lengths (KindStep (p .kind) (Of p (now (dz .entry))) (Of p (now (z .entry))) limit) (KindStep (p .kind) (Of p (now (ds .entry))) (Of p (now (s .entry))) limit) ⌝ }
+{
+    let at = p.start;
+    let kind = p.kind;
+    let end = at + conelist::dim(kind);
+    kind_step_length(
+        kind,
+        &dz[at..end],
+        &ds[at..end],
+        &z[at..end],
+        &s[at..end],
+        limit,
+    )
+}
+
+// The refusals of a step over a place, whose limit is tested last.
+fn step_refusal(p: Place, same: bool, limit: f64) -> u8
+    ensures { λ r. ⌜ r ≡ (Spot p ⊳ Unlike same) ⊳ BadLimit limit ⌝ }
+{
+    answers::first_refusal(conelist::refusal(p, same), answers::limit_refusal(limit))
+}
+
+pub fn step_length_at(p: Place, dz: &[f64], ds: &[f64], z: &[f64], s: &[f64], limit: f64) -> Steps
+    ensures { λ r. ⌜ toldSteps r ≡ StepLengthAt p (now (dz .entry)) (now (ds .entry)) (now (z .entry)) (now (s .entry)) limit ⌝ }
+{
+    let entries = p.entries;
+    let same = (dz.len() == entries)
+        & (ds.len() == entries)
+        & (z.len() == entries)
+        & (s.len() == entries);
+    let no = step_refusal(p, same, limit);
+    if no != 0 {
+        return Steps::Refused(no);
+    }
+    Steps::Lengths(step_length_in(p, dz, ds, z, s, limit))
+}
+
+// ---- the standing
+
+fn kind_standing(kind: Kind, z: &[f64]) -> Standing
+    requires { ⌜ Fit (LeastDim kind) (length (now z)) [] ⌝ }
+    ensures { λ r. ⌜ r ≡ KindStanding kind (now (z .entry)) ⌝ }
+{
+    match kind {
+        Kind::Nonnegative(n) => standing::nonnegative(z),
+        Kind::SecondOrder(n) => standing::second_order(z),
+    }
+}
+
+fn standing_in(p: Place, z: &[f64]) -> Standing
+    requires { ⌜ Open p ((length (now z), p .entries) ∷ []) ⌝ }
+    ensures { λ r. ⌜ r ≡ KindStanding (p .kind) (Of p (now (z .entry))) ⌝ }
+{
+    let at = p.start;
+    let kind = p.kind;
+    let end = at + conelist::dim(kind);
+    kind_standing(kind, &z[at..end])
+}
+
+pub fn standing_at(p: Place, z: &[f64]) -> Stands
+    ensures { λ r. ⌜ toldStands r ≡ StandingAt p (now (z .entry)) ⌝ }
+{
+    let entries = p.entries;
+    let no = conelist::refusal(p, z.len() == entries);
+    if no != 0 {
+        return Stands::Refused(no);
+    }
+    Stands::As(standing_in(p, z))
+}
