@@ -123,32 +123,14 @@ module _ (low : Bool) (_⊓_ : Float → Float → Float) (ed : Edition (UpTo lo
         let u = number low (step limit) (b .0) most in
         (from-zero low (step limit) (b .0) most, le-is (step limit) limit u num ∙ ap not (not-above low (step limit) limit u num (b .1)))
 
--- ---- as loops: the list's step, and the step with the running least handed on
+-- ---- the list's step as a loop
 
 module _ {A : Type 0} (_⊓_ : A → A → A) where
   over-snoc : (l : A) (xs : List A) (x : A) → Over _⊓_ l (xs ++ (x ∷ [])) ≡ _⊓_ (Over _⊓_ l xs) x
   over-snoc l [] x = refl
   over-snoc l (y ∷ xs) x = over-snoc (_⊓_ l y) xs x
 
-  handed-snoc : (l : A) (ss : List (A → A)) (s : A → A) → Handed _⊓_ l (ss ++ (s ∷ [])) ≡ _⊓_ (Handed _⊓_ l ss) (s (Handed _⊓_ l ss))
-  handed-snoc l [] s = refl
-  handed-snoc l (t ∷ ss) s = handed-snoc (_⊓_ l (t l)) ss s
-
   pub list-loop : (l : A) (f : ℕ → A → A) (n : ℕ) → ListStep _⊓_ l (Each n f) ≡ Fold n l (λ k a. _⊓_ a (f k l))
   unfolding Each Fold
   list-loop l f zero = refl
   list-loop l f (suc n) = simp (map-append, over-snoc) (ap (λ a. _⊓_ a (f n l)) (list-loop l f n))
-
-  pub handed-loop : (l : A) (f : ℕ → A → A) (n : ℕ) → Handed _⊓_ l (Each n f) ≡ Fold n l (λ k a. _⊓_ a (f k a))
-  unfolding Each Fold
-  handed-loop l f zero = refl
-  handed-loop l f (suc n) = simp handed-snoc (ap (λ a. _⊓_ a (f n a)) (handed-loop l f n))
-
-all-snoc : {A : Type 0} (P : A → Type 0) (xs : List A) (x : A) → All P xs → P x → All P (xs ++ (x ∷ []))
-all-snoc P [] x h p = (p, tt)
-all-snoc P (y ∷ xs) x h p = (h .0, all-snoc P xs x (h .1) p)
-
-pub all-each : {A : Type 0} (P : A → Type 0) (f : ℕ → A) → ((k : ℕ) → P (f k)) → (n : ℕ) → All P (Each n f)
-unfolding Each
-all-each P f h zero = tt
-all-each P f h (suc n) = all-snoc P (Each n f) (f n) (all-each P f h n) (h n)

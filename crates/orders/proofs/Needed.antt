@@ -17,7 +17,8 @@ use Rattle.conelist.specs.declared.Kind.the-variants.{Nonnegative, SecondOrder}
 use Rattle.conelist.specs.declared.Cone.{Cone}
 use Rattle.conelist.specs.Layout.{Part}
 use Rattle.conecalls.specs.Kinds.{KindStepBy}
-use Rattle.orders.specs.Sides.{InOrder, ListSide, HandedStep, PassedStep, PassedLimits}
+use Rattle.conecalls.specs.List.{SideStep}
+use Rattle.orders.specs.Sides.{InOrder, HandedStep, PassedStep, PassedLimits}
 
 -- a nonnegative cone of one entry, and behind it a second-order cone of two
 abbrev pub cones : List Cone
@@ -35,10 +36,10 @@ limit = near 1 1
 
 -- the list's step is −1. With each answer handed on, the second cone gets the limit −1, which the call refuses (6), and its rule answers 0; −1
 -- again where the least of limit and answer is taken
-pub needed : (ListSide cones along point limit ≡ minus 1 1)
+pub needed : (SideStep Least cones along point limit ≡ minus 1 1)
     × (PassedStep cones along point (InOrder cones) limit ≡ near 0 1)
     × (HandedStep cones along point (InOrder cones) limit ≡ minus 1 1)
-    × (eq (PassedStep cones along point (InOrder cones) limit) (ListSide cones along point limit) ≡ false)
+    × (eq (PassedStep cones along point (InOrder cones) limit) (SideStep Least cones along point limit) ≡ false)
     × (map BadLimit (PassedLimits cones along point (InOrder cones) limit) ≡ 0 ∷ 6 ∷ [])
 unfolding Each Part KindStepBy NonnegStep SocStepBy Branches Roots ZeroCurvature Lowered Turn Forward Residual Least Greatest Picked Root Fold Dot BadLimit round ofBits lt le eq isNan add sub mul div neg
 needed = (refl, refl, refl, refl, refl)

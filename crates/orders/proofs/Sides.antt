@@ -10,7 +10,11 @@ use lib.Ieee.{Float, nan, inf, fin, isNan, lt, le, eq, ofBits}
 use Rattle.extrema.specs.Extrema.{Least}
 use Rattle.vecmath.specs.Double.{𝟎, ∞}
 use Rattle.vecmath.specs.Vector.{Each}
+use Rattle.answers.specs.declared.StepPair.{StepPair}
+use Rattle.answers.specs.declared.Steps.the-variants.{Lengths}
 use Rattle.answers.specs.Refusal.{BadLimit}
+use Rattle.answers.specs.Outcome.{lengths, gives, Contents, Call, toldSteps}
+use Rattle.answers.proofs.Laws.{clear-both}
 use Rattle.ordering.proofs.Order.{le-is, eq-trans}
 use Rattle.ordering.proofs.Least.{All, Trims}
 use Rattle.ordering.proofs.Shortens.{UpTo, document-01, Shortens, at-least-zero}
@@ -22,7 +26,8 @@ use Rattle.conelist.specs.declared.Kind.the-variants.{Nonnegative, SecondOrder}
 use Rattle.conelist.specs.declared.Cone.{Cone}
 use Rattle.conelist.specs.Layout.{KindAt}
 use Rattle.conecalls.specs.Kinds.{KindStep, KindStepBy}
-use Rattle.orders.specs.Sides.{InOrder, StepAt, ListSide, VisitedStep, HandedStep, PassedStep, PassedLimits, NonnegAt, NonnegEntries}
+use Rattle.conecalls.specs.List.{StepOfCone, SideStep, ListStepLength}
+use Rattle.orders.specs.Sides.{InOrder, StepsBy, VisitedStep, HandedStep, PassedStep, PassedLimits, NonnegAt, NonnegEntries}
 
 -- each kind's step is the least of its limit and what it is without one, where no nonnegative entry is below zero; and it always counts as
 -- much beside its limit as it does without one
@@ -75,13 +80,10 @@ good-limits : (ls : List Float) → All (λ l. le 𝟎 l ≡ true) ls → All (�
 good-limits [] h = tt
 good-limits (l ∷ ls) h = (good-limit l (h .0), good-limits ls (h .1))
 
--- ---- the theorems: for any list, any point and direction, a limit that is zero or more (−0 and infinity too), and any order ks in which the
+-- ---- the theorems, of `SideStep Least list dz z αmax`, by which the list step answers for each side (conecalls, `ListStepLength`): for any list, any point and direction, a limit that is zero or more (−0 and infinity too), and any order ks in which the
 -- cones are visited
 
 module _ (list : List Cone) (dz z : List Float) (αmax : Float) (zero-or-more : le 𝟎 αmax ≡ true) where
-  abbrev steps : List ℕ → List (Float → Float)
-  steps ks = map (StepAt list dz z) ks
-
   number : isNan αmax ≡ false
   number = a-number αmax zero-or-more
 
@@ -90,27 +92,41 @@ module _ (list : List Cone) (dz z : List Float) (αmax : Float) (zero-or-more : 
 
   -- a least of numbers
   of-least : (ks : List ℕ) → isNan (VisitedStep list dz z ks αmax) ≡ false
-  of-least ks = is-number false Least document-01 αmax refl number (map (λ step. step αmax) (steps ks))
+  of-least ks = is-number false Least document-01 αmax refl number (map (λ step. step αmax) (StepsBy list dz z ks))
 
   -- a side's step over the list has one value by comparison
-  pub one-value : (ks : List ℕ) → Perm ks (InOrder list) → eq (VisitedStep list dz z ks αmax) (ListSide list dz z αmax) ≡ true
+  pub one-value : (ks : List ℕ) → Perm ks (InOrder list) → eq (VisitedStep list dz z ks αmax) (SideStep Least list dz z αmax) ≡ true
   one-value ks p =
-      rw (← (in-order (StepAt list dz z) (length list)))
-      (by-value _ _ (of-least (InOrder list)) (any-order false Least document-01 αmax {steps = steps ks} {steps′ = steps (InOrder list)} (Perm·map (StepAt list dz z) p)))
+      rw (← (in-order (StepOfCone Least list dz z) (length list)))
+      (by-value _ _ (of-least (InOrder list)) (any-order false Least document-01 αmax {steps = StepsBy list dz z ks} {steps′ = StepsBy list dz z (InOrder list)} (Perm·map (StepOfCone Least list dz z) p)))
 
   -- handing the running least on as the next limit gives that value, for any point
-  pub handed : (ks : List ℕ) → Perm ks (InOrder list) → eq (HandedStep list dz z ks αmax) (ListSide list dz z αmax) ≡ true
+  pub handed : (ks : List ℕ) → Perm ks (InOrder list) → eq (HandedStep list dz z ks αmax) (SideStep Least list dz z αmax) ≡ true
   handed ks p =
-      let trim = all-map (Trims (UpTo false) Least document-01 ∞) (StepAt list dz z) (λ k. kind-trims (KindAt list k) _ _) ks in
-      eq-trans _ (VisitedStep list dz z ks αmax) _ (handed-on false Least document-01 αmax number (steps ks) (of-least ks) trim) (one-value ks p)
+      let trim = all-map (Trims (UpTo false) Least document-01 ∞) (StepOfCone Least list dz z) (λ k. kind-trims (KindAt list k) _ _) ks in
+      eq-trans _ (VisitedStep list dz z ks αmax) _ (handed-on false Least document-01 αmax number (StepsBy list dz z ks) (of-least ks) trim) (one-value ks p)
 
   -- if no nonnegative-cone entry of the point is below zero, so does handing each answer on by itself; and no limit is then refused
   module _ (h : NonnegEntries list z) where
-    shorten : (ks : List ℕ) → All (Shortens false Least document-01) (steps ks)
-    shorten ks = all-map (Shortens false Least document-01) (StepAt list dz z) (λ k. kind-shortens (KindAt list k) _ _ (h k)) ks
+    shorten : (ks : List ℕ) → All (Shortens false Least document-01) (StepsBy list dz z ks)
+    shorten ks = all-map (Shortens false Least document-01) (StepOfCone Least list dz z) (λ k. kind-shortens (KindAt list k) _ _ (h k)) ks
 
-    pub passed : (ks : List ℕ) → Perm ks (InOrder list) → eq (PassedStep list dz z ks αmax) (ListSide list dz z αmax) ≡ true
-    passed ks p = eq-trans _ (VisitedStep list dz z ks αmax) _ (passed-on false Least document-01 αmax number admitted (steps ks) (shorten ks)) (one-value ks p)
+    pub passed : (ks : List ℕ) → Perm ks (InOrder list) → eq (PassedStep list dz z ks αmax) (SideStep Least list dz z αmax) ≡ true
+    passed ks p = eq-trans _ (VisitedStep list dz z ks αmax) _ (passed-on false Least document-01 αmax number admitted (StepsBy list dz z ks) (shorten ks)) (one-value ks p)
 
     pub limits : (ks : List ℕ) → All (λ l. BadLimit l ≡ 0) (PassedLimits list dz z ks αmax)
-    limits ks = good-limits (PassedLimits list dz z ks αmax) (limits-admitted false Least document-01 αmax number admitted (steps ks) (shorten ks))
+    limits ks = good-limits (PassedLimits list dz z ks αmax) (limits-admitted false Least document-01 αmax number admitted (StepsBy list dz z ks) (shorten ks))
+
+-- ---- so of the list step's contract: where it answers, each side's answer is that value
+
+told-pair : (n : ℕ) (a b c d : Float) → gives (lengths a b) ≡ Call {B = Contents} n (lengths c d) [] [] .ruling → (n ≡ 0) × (c ≡ a) × (d ≡ b)
+unfolding Call
+told-pair zero a b c d e = (refl, cc, cc)
+told-pair (suc n) a b c d e = let z : _≡_ {A = ℕ} 0 1 = cc in absurd (omega arith)
+
+pub list-step : (list : List Cone) (dz ds z s : List Float) (αmax : Float) (p : StepPair) → toldSteps (Lengths p) ≡ ListStepLength list dz ds z s αmax
+    → (ks : List ℕ) → Perm ks (InOrder list) → (eq (VisitedStep list dz z ks αmax) (p .z) ≡ true) × (eq (VisitedStep list ds s ks αmax) (p .s) ≡ true)
+list-step list dz ds z s αmax p e ks perm =
+    let t = told-pair _ (p .z) (p .s) _ _ (ap (λ o. o .ruling) e) in
+    let limit = from-zero αmax (clear-both _ _ (t .0) .1) in
+    (rw (← (t .1)) (one-value list dz z αmax limit ks perm), rw (← (t .2)) (one-value list ds s αmax limit ks perm))

@@ -11,7 +11,7 @@ use Rattle.conelist.specs.declared.Kind.{Kind}
 use Rattle.conelist.specs.declared.Kind.the-variants.{Nonnegative, SecondOrder}
 use Rattle.conelist.specs.declared.Cone.{Cone}
 use Rattle.conelist.specs.Layout.{KindAt, Row, Of}
-use Rattle.conecalls.specs.Kinds.{KindStep}
+use Rattle.conecalls.specs.List.{StepOfCone}
 
 -- the cones of a list in its own order: 0, 1, 2, ..
 abbrev pub InOrder : List Cone → List ℕ
@@ -19,28 +19,24 @@ InOrder list = Each (length list) (λ k. k)
 
 -- a side is a point z and its direction dz: z along dz, or s along ds
 module _ (list : List Cone) (dz z : List Float) where
-  -- the step of cone k, on its own ranges, by its limit
-  abbrev pub StepAt : ℕ → Float → Float
-  StepAt k = KindStep (KindAt list k) (Of (Row list k) dz) (Of (Row list k) z)
+  -- each cone's own step, by its limit, in the order ks in which the cones are visited
+  abbrev pub StepsBy : (ks : List ℕ) → List (Float → Float)
+  StepsBy ks = map (StepOfCone Least list dz z) ks
 
-  -- "Over a list each cone gets the caller's αmax, and each side's least is the answer", the cones in the list's order
-  abbrev pub ListSide : (αmax : Float) → Float
-  ListSide αmax = ListStep Least αmax (Each (length list) StepAt)
-
-  -- the same, the cones visited in the order ks
+  -- "each cone gets the caller's αmax, and each side's least is the answer"
   abbrev pub VisitedStep : (ks : List ℕ) (αmax : Float) → Float
-  VisitedStep ks αmax = ListStep Least αmax (map StepAt ks)
+  VisitedStep ks αmax = ListStep Least αmax (StepsBy ks)
 
   -- each cone gets the least so far as its limit
   abbrev pub HandedStep : (ks : List ℕ) (αmax : Float) → Float
-  HandedStep ks αmax = Handed Least αmax (map StepAt ks)
+  HandedStep ks αmax = Handed Least αmax (StepsBy ks)
 
   -- each cone gets the answer of the one before, and no least is taken: the last answer counts. The limits that the cones get so
   abbrev pub PassedStep : (ks : List ℕ) (αmax : Float) → Float
-  PassedStep ks αmax = Passed αmax (map StepAt ks)
+  PassedStep ks αmax = Passed αmax (StepsBy ks)
 
   abbrev pub PassedLimits : (ks : List ℕ) (αmax : Float) → List Float
-  PassedLimits ks αmax = Limits αmax (map StepAt ks)
+  PassedLimits ks αmax = Limits αmax (StepsBy ks)
 
 -- "no nonnegative-cone entry of the points is below zero"
 abbrev pub NonnegAt : Kind → List Float → Type 0
