@@ -1,5 +1,7 @@
 -- The nonnegative cone's step (document 01, "Nonnegative rules"; source document 001, step_length). Assumes nothing.
-use mathlib.Core.Bool.{cond}
+use Prim.Native.Nat.{ℕ}
+use mathlib.Core.Path.{_≡_}
+use mathlib.Core.Bool.{false, cond}
 use mathlib.Core.List.{List, [], _∷_}
 use lib.ListN.{length}
 use lib.Ieee.{Float, lt, neg}
@@ -24,6 +26,10 @@ module _ (_⊓_ : Float → Float → Float) where
   -- the two step lengths, z side and s side
   abbrev pub NonnegSteps : List Float → List Float → List Float → List Float → Float → Reply
   NonnegSteps dz ds z s αmax = lengths (NonnegStep dz z αmax) (NonnegStep ds s αmax)
+
+-- no entry of the point is below zero (document 00, demand 3). Past the end an entry counts as NaN, which is not.
+abbrev pub NoneBelow : List Float → Type 0
+NoneBelow z = (k : ℕ) → lt (z ! k) 𝟎 ≡ false
 
 -- ---- the bare calls, with document 01's least, which ignores a NaN ratio
 

@@ -3,17 +3,17 @@
 use Prim.Native.Nat.{ℕ, zero, suc}
 use mathlib.Core.Path.{_≡_, refl, sym, ap, _∙_}
 use mathlib.Core.Bool.{Bool, true, false, not, cond, false≢true, true≢false, Bool-set}
-use mathlib.Core.List.{List, [], _∷_, _++_, map-append, Perm, Permᴰ·map}
+use mathlib.Core.List.{List, [], _∷_, _++_, map, map-append, Perm, Permᴰ·map}
 use mathlib.Core.Logic.{∥∥₁-elim}
 use mathlib.Core.HLevel.{×₃-prop}
 use borrow.Author.Tests.{not-true}
 use lib.Ieee.{Float, nan, inf, fin, isNan, lt, le, eq, ofBits}
 use Rattle.vecmath.specs.Vector.{Each, Fold}
 use Rattle.vecmath.specs.Double.{𝟎, ∞}
-use Rattle.ordering.specs.Upto.{Upto, SameValue, Over, Handed, ListStep}
+use Rattle.ordering.specs.Upto.{Upto, SameValue, Over, Handed, ListStep, Passed, Limits}
 use Rattle.ordering.proofs.Order.{nan-is, nan-lt, eq-is, le-is}
-use Rattle.ordering.proofs.Least.{All, Edition, one-value, Limit, bounds, within, handing-on}
-use Rattle.ordering.proofs.Shortens.{UpTo, chain, Shortens, zero-up-to}
+use Rattle.ordering.proofs.Least.{All, Edition, over-lower, one-value, Limit, Trims, bounds, within, handing-on, passing-on, limits}
+use Rattle.ordering.proofs.Shortens.{UpTo, self, chain, Shortens, zero-up-to}
 
 -- ---- one value
 
@@ -56,6 +56,26 @@ limit-up-to low (inf true) u = refl
 limit-up-to low (inf false) u = refl
 limit-up-to low (fin s m e) u = refl
 
+-- what is up to a number is one, where a NaN counts as above all numbers
+below-number : (low : Bool) (x y : Float) → low ≡ false → UpTo low x y → isNan y ≡ false → isNan x ≡ false
+unfolding Upto
+below-number low x y w = go low (isNan x) (isNan y) w
+  where
+    go : (w p q : Bool) → w ≡ false → cond p (cond q true w) (cond q (not w) (not (lt y x))) ≡ true → q ≡ false → p ≡ false
+    go w true true u e v = absurd (true≢false v)
+    go true true false u e v = absurd (true≢false u)
+    go false true false u e v = absurd (false≢true e)
+    go w false q u e v = refl
+
+zero-number : isNan 𝟎 ≡ false
+unfolding isNan ofBits
+zero-number = refl
+
+from-zero : (low : Bool) (x : Float) → UpTo low 𝟎 x → UpTo low x ∞ → le 𝟎 x ≡ true
+from-zero low x e f =
+    let u = number low x e f in
+    le-is 𝟎 x zero-number u ∙ ap not (not-above low 𝟎 x zero-number u e)
+
 -- ---- for each edition of least
 
 module _ (low : Bool) (_⊓_ : Float → Float → Float) (ed : Edition (UpTo low) _⊓_) (limit : Float) where
@@ -65,52 +85,52 @@ module _ (low : Bool) (_⊓_ : Float → Float → Float) (ed : Edition (UpTo lo
       let v = one-value (UpTo low) _⊓_ ed limit (Permᴰ·map (λ step. step limit) d) in
       same-value low _ _ (v .0) (v .1))
 
+  -- where a NaN is passed over and the limit is a number, so is the least
+  pub is-number : low ≡ false → isNan limit ≡ false → (xs : List Float) → isNan (Over _⊓_ limit xs) ≡ false
+  is-number w num xs = below-number low _ limit w (over-lower (UpTo low) _⊓_ ed limit xs _ (self low (Over _⊓_ limit xs)) .0) num
+
+  -- with the running least handed on, where the least is a number
+  pub handed-on : isNan limit ≡ false → (steps : List (Float → Float)) → isNan (ListStep _⊓_ limit steps) ≡ false → All (Trims (UpTo low) _⊓_ ed ∞) steps
+      → eq (Handed _⊓_ limit steps) (ListStep _⊓_ limit steps) ≡ true
+  handed-on num steps of-least h =
+      let v = handing-on (UpTo low) _⊓_ ed ∞ limit steps (limit-up-to low limit num) h in
+      by-value _ _ of-least (same-value low _ _ (v .0) (v .1))
+
   -- a limit that is not refused
   module _ (num : isNan limit ≡ false) (least : lt limit 𝟎 ≡ false) where
     admitted : Limit (UpTo low) _⊓_ ed 𝟎 ∞ limit
     admitted = (zero-up-to low limit least (λ e. num), limit-up-to low limit num)
 
-    -- with the running least handed on
-    pub handed-on : (steps : List (Float → Float)) → All (Shortens low _⊓_ ed) steps → eq (Handed _⊓_ limit steps) (ListStep _⊓_ limit steps) ≡ true
-    handed-on steps h =
-        let v = handing-on (UpTo low) _⊓_ ed 𝟎 ∞ limit steps admitted h in
+    -- with the answer itself handed on; each limit is then a number that is not below 0
+    pub passed-on : (steps : List (Float → Float)) → All (Shortens low _⊓_ ed) steps → eq (Passed limit steps) (ListStep _⊓_ limit steps) ≡ true
+    passed-on steps h =
+        let v = passing-on (UpTo low) _⊓_ ed 𝟎 ∞ limit steps admitted h in
         let w = within (UpTo low) _⊓_ ed 𝟎 ∞ limit steps admitted h in
         by-value _ _ (number low _ (w .0) (w .1)) (same-value low _ _ (v .0) (v .1))
+
+    pub limits-admitted : (steps : List (Float → Float)) → All (Shortens low _⊓_ ed) steps → All (λ l. le 𝟎 l ≡ true) (Limits limit steps)
+    limits-admitted steps h = all-of (Limits limit steps) (limits (UpTo low) _⊓_ ed 𝟎 ∞ limit steps admitted h)
+      where
+        all-of : (ls : List Float) → All (Limit (UpTo low) _⊓_ ed 𝟎 ∞) ls → All (λ l. le 𝟎 l ≡ true) ls
+        all-of [] h = tt
+        all-of (l ∷ ls) h = (from-zero low l (h .0 .0) (h .0 .1), all-of ls (h .1))
 
     -- a cone's step lies between 0 and its limit
     pub between : (step : Float → Float) → Shortens low _⊓_ ed step → (le 𝟎 (step limit) ≡ true) × (le (step limit) limit ≡ true)
     between step h =
         let b = bounds (UpTo low) _⊓_ ed 𝟎 ∞ step h limit admitted in
-        let u = number low (step limit) (b .0) (chain low (step limit) limit ∞ (b .1) (admitted .1)) in
-        let zero : isNan 𝟎 ≡ false = unfold isNan ofBits in refl in
-        (le-is 𝟎 (step limit) zero u ∙ ap not (not-above low 𝟎 (step limit) zero u (b .0)), le-is (step limit) limit u num ∙ ap not (not-above low (step limit) limit u num (b .1)))
+        let most = chain low (step limit) limit ∞ (b .1) (admitted .1) in
+        let u = number low (step limit) (b .0) most in
+        (from-zero low (step limit) (b .0) most, le-is (step limit) limit u num ∙ ap not (not-above low (step limit) limit u num (b .1)))
 
--- ---- as loops: the list's step, and the step with the running least handed on
+-- ---- the list's step as a loop
 
 module _ {A : Type 0} (_⊓_ : A → A → A) where
   over-snoc : (l : A) (xs : List A) (x : A) → Over _⊓_ l (xs ++ (x ∷ [])) ≡ _⊓_ (Over _⊓_ l xs) x
   over-snoc l [] x = refl
   over-snoc l (y ∷ xs) x = over-snoc (_⊓_ l y) xs x
 
-  handed-snoc : (l : A) (ss : List (A → A)) (s : A → A) → Handed _⊓_ l (ss ++ (s ∷ [])) ≡ _⊓_ (Handed _⊓_ l ss) (s (Handed _⊓_ l ss))
-  handed-snoc l [] s = refl
-  handed-snoc l (t ∷ ss) s = handed-snoc (_⊓_ l (t l)) ss s
-
   pub list-loop : (l : A) (f : ℕ → A → A) (n : ℕ) → ListStep _⊓_ l (Each n f) ≡ Fold n l (λ k a. _⊓_ a (f k l))
   unfolding Each Fold
   list-loop l f zero = refl
   list-loop l f (suc n) = simp (map-append, over-snoc) (ap (λ a. _⊓_ a (f n l)) (list-loop l f n))
-
-  pub handed-loop : (l : A) (f : ℕ → A → A) (n : ℕ) → Handed _⊓_ l (Each n f) ≡ Fold n l (λ k a. _⊓_ a (f k a))
-  unfolding Each Fold
-  handed-loop l f zero = refl
-  handed-loop l f (suc n) = simp handed-snoc (ap (λ a. _⊓_ a (f n a)) (handed-loop l f n))
-
-all-snoc : {A : Type 0} (P : A → Type 0) (xs : List A) (x : A) → All P xs → P x → All P (xs ++ (x ∷ []))
-all-snoc P [] x h p = (p, tt)
-all-snoc P (y ∷ xs) x h p = (h .0, all-snoc P xs x (h .1) p)
-
-pub all-each : {A : Type 0} (P : A → Type 0) (f : ℕ → A) → ((k : ℕ) → P (f k)) → (n : ℕ) → All P (Each n f)
-unfolding Each
-all-each P f h zero = tt
-all-each P f h (suc n) = all-snoc P (Each n f) (f n) (all-each P f h n) (h n)

@@ -28,3 +28,14 @@ module _ {A : Type 0} (_⊓_ : A → A → A) where
   -- the step over a list, from each cone's own step (its answer by its limit): each gets the caller's limit, and the least is the answer
   abbrev pub ListStep : A → List (A → A) → A
   ListStep limit steps = Over limit (map (λ step. step limit) steps)
+
+module _ {A : Type 0} where
+  -- the answer itself handed on: each step is called with the answer of the one before as its limit, and the last answer counts
+  abbrev pub Passed : A → List (A → A) → A
+  Passed limit [] = limit
+  Passed limit (step ∷ steps) = Passed (step limit) steps
+
+  -- the limits that the steps are then called with
+  abbrev pub Limits : A → List (A → A) → List A
+  Limits limit [] = []
+  Limits limit (step ∷ steps) = limit ∷ Limits (step limit) steps

@@ -1,12 +1,12 @@
--- The second-order step is the least of its limit and what it is without one, over any operation called least; so it lies in [0, αmax].
--- Assumes nothing.
+-- Over any operation called least the second-order step is the least of its limit and what it is without one, so it lies in [0, αmax]; and it
+-- may be called at the running least. Assumes nothing.
 use mathlib.Core.Path.{_≡_, refl}
 use mathlib.Core.Bool.{Bool, true, false, cond, _&&_, _||_, false≢true}
 use mathlib.Core.List.{List}
 use lib.Ieee.{Float, isNan, lt, le, eq, neg}
 use Rattle.extrema.specs.Extrema.{Least}
 use Rattle.vecmath.specs.Double.{_⊘_, 𝟎, ∞, _!_}
-use Rattle.ordering.proofs.Least.{Edition, meet, cuts-least, cuts-none}
+use Rattle.ordering.proofs.Least.{Edition, Trims, trims-limit, trims-least, trims-none, meet, cuts-least, cuts-none}
 use Rattle.ordering.proofs.Shortens.{UpTo, document-01, ratio, NoNan, zero-up-to, zero-inf, at-least-zero, Shortens, none-both, limit-itself}
 use Rattle.ordering.proofs.Listed.{between}
 use Rattle.soc_step.specs.Step.{Forward, Lowered, ZeroCurvature, Roots, Branches, SocStepBy, StepAlong}
@@ -51,6 +51,34 @@ module _ (low : Bool) (_⊓_ : Float → Float → Float) (ed : Edition (UpTo lo
   pub shortens : (x y : List Float) → NoNan low (SocStepBy _⊓_ x y l₀) → Shortens low _⊓_ ed (SocStepBy _⊓_ x y)
   unfolding SocStepBy
   shortens x y = branches _ _ _ _ (Lowered _⊓_ (x ! 0) (y ! 0)) (lowered (x ! 0) (y ! 0))
+
+-- beside its limit, whatever that is, it counts as much as it does without one
+module _ (low : Bool) (_⊓_ : Float → Float → Float) (ed : Edition (UpTo low) _⊓_) where
+  abbrev Trim : (Float → Float) → Type 0
+  Trim step = Trims (UpTo low) _⊓_ ed ∞ step
+
+  trims-lowered : (x₀ y₀ : Float) → Trim (Lowered _⊓_ x₀ y₀)
+  unfolding Lowered
+  trims-lowered x₀ y₀ = go (le 𝟎 x₀ && lt y₀ 𝟎)
+    where
+      go : (t : Bool) → Trim (λ l. cond t (_⊓_ l (neg x₀ ⊘ y₀)) l)
+      go true = trims-least (UpTo low) _⊓_ ed ∞ (λ l. l) (neg x₀ ⊘ y₀) (trims-limit (UpTo low) _⊓_ ed ∞)
+      go false = trims-limit (UpTo low) _⊓_ ed ∞
+
+  trims-branches : (a b c d : Float) (step : Float → Float) → Trim step → Trim (λ l. Branches _⊓_ a b c d (step l))
+  unfolding Branches ZeroCurvature Roots
+  trims-branches a b c d step h = go ((lt 𝟎 a && lt 𝟎 b) || lt d 𝟎) (eq a 𝟎) (eq c 𝟎) (le 𝟎 a) _
+    where
+      go : (t₁ t₂ t₃ t₄ : Bool) (ρ : Float) → Trim (λ l. cond t₁ (step l) (cond t₂ (step l) (cond t₃ (cond t₄ (step l) 𝟎) (_⊓_ (step l) ρ))))
+      go true t₂ t₃ t₄ ρ = h
+      go false true t₃ t₄ ρ = h
+      go false false true true ρ = h
+      go false false true false ρ = trims-none (UpTo low) _⊓_ ed ∞ 𝟎
+      go false false false t₄ ρ = trims-least (UpTo low) _⊓_ ed ∞ step ρ h
+
+  pub trims : (x y : List Float) → Trim (SocStepBy _⊓_ x y)
+  unfolding SocStepBy
+  trims x y = trims-branches _ _ _ _ (Lowered _⊓_ (x ! 0) (y ! 0)) (trims-lowered (x ! 0) (y ! 0))
 
 -- for a limit that is admitted, and any x and y
 pub within : (x y : List Float) (αmax : Float) → isNan αmax ≡ false → lt αmax 𝟎 ≡ false → (le 𝟎 (StepAlong x y αmax) ≡ true) × (le (StepAlong x y αmax) αmax ≡ true)

@@ -1,0 +1,58 @@
+-- Over any operation called least: where no entry of the point is below zero, the nonnegative step is the least of its limit and what it is
+-- without one, so it lies in [0, αmax]; and for any point it may be called at the running least. Assumes nothing.
+use Prim.Native.Nat.{ℕ, zero, suc}
+use mathlib.Core.Path.{_≡_, refl}
+use mathlib.Core.Bool.{Bool, true, false, cond, false≢true}
+use mathlib.Core.List.{List}
+use lib.ListN.{length}
+use lib.Ieee.{Float, isNan, lt, le, neg}
+use Rattle.extrema.specs.Extrema.{Least}
+use Rattle.vecmath.specs.Double.{_⊘_, 𝟎, ∞, _!_}
+use Rattle.vecmath.specs.Vector.{Fold}
+use Rattle.ordering.proofs.Least.{Edition, Trims, trims-limit, trims-least, cuts-least}
+use Rattle.ordering.proofs.Shortens.{UpTo, document-01, ratio, NoNan, zero-up-to, Shortens, none-both, limit-itself}
+use Rattle.ordering.proofs.Listed.{between}
+use Rattle.nn_step.specs.Step.{Shorter, NonnegStep, NoneBelow}
+
+-- for a least under which a NaN is handed on (`low`): where the answer at some limit l₀ is none
+module _ (low : Bool) (_⊓_ : Float → Float → Float) (ed : Edition (UpTo low) _⊓_) (l₀ : Float) where
+  pub shortens : (dz z : List Float) → NoneBelow z → NoNan low (NonnegStep _⊓_ dz z l₀) → Shortens low _⊓_ ed (NonnegStep _⊓_ dz z)
+  unfolding NonnegStep Fold
+  shortens dz z h = turns (length dz)
+    where
+      run : ℕ → Float → Float
+      run n l = Fold n l (λ k α. Shorter _⊓_ (dz ! k) (z ! k) α)
+
+      turns : (n : ℕ) → NoNan low (run n l₀) → Shortens low _⊓_ ed (run n)
+      turns zero t = limit-itself low _⊓_ ed
+      turns (suc n) t = go (lt (dz ! n) 𝟎) refl (turns n) t
+        where
+          go : (b : Bool) → lt (dz ! n) 𝟎 ≡ b → (NoNan low (run n l₀) → Shortens low _⊓_ ed (run n)) → NoNan low (cond b (_⊓_ (run n l₀) (neg (z ! n) ⊘ dz ! n)) (run n l₀))
+              → Shortens low _⊓_ ed (λ l. cond b (_⊓_ (run n l) (neg (z ! n) ⊘ dz ! n)) (run n l))
+          go true e c t =
+              let r = none-both low _⊓_ ed (run n l₀) (neg (z ! n) ⊘ dz ! n) t in
+              cuts-least (UpTo low) _⊓_ ed 𝟎 ∞ (run n) _ (c (r .0)) (zero-up-to low _ (ratio (z ! n) (dz ! n) (h n) e) (r .1))
+          go false e c t = c t
+
+-- for any point: beside its limit it counts as much as it does without one
+module _ (low : Bool) (_⊓_ : Float → Float → Float) (ed : Edition (UpTo low) _⊓_) where
+  pub trims : (dz z : List Float) → Trims (UpTo low) _⊓_ ed ∞ (NonnegStep _⊓_ dz z)
+  unfolding NonnegStep Fold
+  trims dz z = turns (length dz)
+    where
+      run : ℕ → Float → Float
+      run n l = Fold n l (λ k α. Shorter _⊓_ (dz ! k) (z ! k) α)
+
+      turns : (n : ℕ) → Trims (UpTo low) _⊓_ ed ∞ (run n)
+      turns zero = trims-limit (UpTo low) _⊓_ ed ∞
+      turns (suc n) = go (lt (dz ! n) 𝟎) (turns n)
+        where
+          go : (b : Bool) → Trims (UpTo low) _⊓_ ed ∞ (run n) → Trims (UpTo low) _⊓_ ed ∞ (λ l. cond b (_⊓_ (run n l) (neg (z ! n) ⊘ dz ! n)) (run n l))
+          go true t = trims-least (UpTo low) _⊓_ ed ∞ (run n) (neg (z ! n) ⊘ dz ! n) t
+          go false t = t
+
+-- for a limit that is admitted, and a point none of whose entries is below zero
+pub within : (dz z : List Float) (αmax : Float) → NoneBelow z → isNan αmax ≡ false → lt αmax 𝟎 ≡ false
+    → (le 𝟎 (NonnegStep Least dz z αmax) ≡ true) × (le (NonnegStep Least dz z αmax) αmax ≡ true)
+within dz z αmax h number admitted =
+    between false Least document-01 αmax number admitted (NonnegStep Least dz z) (shortens false Least document-01 αmax dz z h (λ e. absurd (false≢true e)))
