@@ -48,6 +48,10 @@ abbrev pub First : ℕ → List ℕ → ℕ
 First a [] = a
 First a (b ∷ bs) = First (a ⊳ b) bs
 
+-- the rule's answer, and the buffers `writes` with the rule's new ranges
+abbrev pub DoesAt : Place → (writes : List Lent) → Does → Does
+DoesAt p writes does = record { reply = does .reply; news = Backs p writes (does .news) }
+
 -- A call that is lent `writes` for writing and `reads` for reading: refusals up to 4, those of rank 7 (`early`), then 5 for a slice of the wrong
 -- length, then those of rank 6 (`late`); else the rule's answer, and the buffers with the rule's new ranges.
 abbrev pub CallAt : Place → (early : List ℕ) → (writes reads : List Lent) → (late : List ℕ) → Does → Came
@@ -55,7 +59,7 @@ CallAt p early writes reads late does =
     CallDoes
     (First (Spot p) (early ++ (Unlike (AllFit (map (λ b. (length (b .1), Wide p (b .0))) (writes ++ reads))) ∷ late)))
     (map (λ b. b .1) writes)
-    (record { reply = does .reply; news = Backs p writes (does .news) })
+    (DoesAt p writes does)
 
 -- a rule that only writes
 abbrev pub Writes : Contents → Does

@@ -1,0 +1,30 @@
+-- `list_identity::identity_in` meets its contract. Assumes nothing.
+use mathlib.Core.Path.{refl}
+use mathlib.Core.List.{[], _∷_}
+use borrow.Author.Needs.{needs}
+use Rattle.conelist.proofs.Placed.{lent}
+use Rattle.conecalls.specs.At.{entries, number}
+use Rattle.conecalls.proofs.Ranges.{ranges, cuts-fit}
+use Rattle.conecalls.proofs.Back.{backs}
+use Rattle.list_identity.proofs.identity_in.Statement.{statement}
+use Rattle.list_identity.proofs.identity_in.Tie as tie
+
+pub identity-in-spec : {M : Type 1} → statement M
+identity-in-spec =
+    tie.close (tie.spec
+    (λ c κs. search needs)
+    (λ c. search ranges) (λ c. search ranges) (λ c. search ranges) (λ c. search ranges) (λ c. search ranges) (λ c. search ranges) (λ c. search ranges) (λ c. search ranges) (λ c. search ranges) (λ c. search ranges) (λ c. search ranges) (λ c. search ranges) (λ c. search ranges) (λ c. search ranges) (λ c. search ranges) (λ c. search ranges) (λ c. search ranges)
+    (λ c κs.
+    let dim = c .before .before .before .before .before in
+    let start = dim .before .before .before .before .before .before in
+    let a = start .args in
+    let same = start .pre .same in
+    cuts-fit (a .p) _ (start .pre .here) (dim .dim .ensures) (a .w .now) (a .u .now ∷ a .v .now ∷ []) (same .0) (same .1 .0, (same .1 .1 .0, tt)))
+    (λ c. search ranges) (λ c. search ranges) (λ c. search ranges) (λ c. search ranges) (λ c. search ranges)
+    (λ c.
+    let kernel = c .before .before .before .before .before .before in
+    let dim = kernel .before .before .before .before .before .before in
+    let long = dim .dim .ensures in
+    let a = dim .before .before .before .before .before .before .args in
+    backs (a .p) long refl ((entries, a .w .now) ∷ (entries, a .u .now) ∷ (entries, a .v .now) ∷ (number, a .eta .now) ∷ (number, a .d .now) ∷ [])
+    (simp (lent long) at (kernel .kind-identity .ensures))))

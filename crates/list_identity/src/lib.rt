@@ -1,0 +1,90 @@
+// Identity scaling of one cone of a list (document 01, "Second-order rules" and "Nonnegative rules"; source documents 000, lines 121 to 132, and
+// 001, lines 73 to 75), over the cone's place: by the cone's kind, on the cone's own ranges, and the call.
+use answers::Answer;
+use conelist::Kind;
+use conelist::Place;
+ghost use mathlib.Core.Path.{_≡_};
+ghost use mathlib.Core.List.{[], _∷_};
+ghost use lib.ListN.{length};
+ghost use Rattle.vecmath.specs.Double.{_!_};
+ghost use Rattle.answers.specs.Refusal.{Fit};
+ghost use Rattle.answers.specs.Outcome.{told};
+ghost use Rattle.conelist.specs.Layout.{LeastDim, Open, Of};
+ghost use Rattle.conecalls.specs.At.{entries, number, Backs};
+ghost use Rattle.conecalls.specs.Kinds.{KindIdentity};
+ghost use Rattle.conecalls.specs.Calls.{SetIdentityScalingAt};
+
+// A nonnegative cone uses no u, v, η, d: they stay.
+fn kind_identity(
+    kind: Kind,
+    w: &mut [f64],
+    u: &mut [f64],
+    v: &mut [f64],
+    eta: &mut f64,
+    d: &mut f64,
+)
+    requires { ⌜ Fit (LeastDim kind) (length (now w)) (length (now u) ∷ length (now v) ∷ []) ⌝ }
+    ensures { λ _. ⌜ now (w .exit) ∷ now (u .exit) ∷ now (v .exit) ∷ (now (eta .exit) ∷ []) ∷ (now (d .exit) ∷ []) ∷ []
+        ≡ KindIdentity kind (now (w .entry)) (now (u .entry)) (now (v .entry)) (now (eta .entry)) (now (d .entry)) ⌝ }
+{
+    match kind {
+        Kind::Nonnegative(n) => nn_scaling::set_identity_scaling(w),
+        Kind::SecondOrder(n) => soc_scaling::set_identity_scaling(w, u, v, eta, d),
+    }
+}
+
+fn identity_in(
+    p: Place,
+    w: &mut [f64],
+    u: &mut [f64],
+    v: &mut [f64],
+    eta: &mut [f64],
+    d: &mut [f64],
+)
+    requires { ⌜ Open p ((length (now w), p .entries) ∷ (length (now u), p .entries) ∷ (length (now v), p .entries)
+        ∷ (length (now eta), p .count) ∷ (length (now d), p .count) ∷ []) ⌝ }
+    ensures { λ _. ⌜ now (w .exit) ∷ now (u .exit) ∷ now (v .exit) ∷ now (eta .exit) ∷ now (d .exit) ∷ []
+        ≡ Backs p ((entries, now (w .entry)) ∷ (entries, now (u .entry)) ∷ (entries, now (v .entry)) ∷ (number, now (eta .entry))
+        ∷ (number, now (d .entry)) ∷ [])
+        (KindIdentity (p .kind) (Of p (now (w .entry))) (Of p (now (u .entry))) (Of p (now (v .entry))) (now (eta .entry) ! (p .index))
+        (now (d .entry) ! (p .index))) ⌝ }
+{
+    let at = p.start;
+    let kind = p.kind;
+    let k = p.index;
+    let end = at + conelist::dim(kind);
+    kind_identity(
+        kind,
+        &mut w[at..end],
+        &mut u[at..end],
+        &mut v[at..end],
+        &mut eta[k],
+        &mut d[k],
+    );
+}
+
+pub fn set_identity_scaling_at(
+    p: Place,
+    w: &mut [f64],
+    u: &mut [f64],
+    v: &mut [f64],
+    eta: &mut [f64],
+    d: &mut [f64],
+) -> Answer
+    ensures { λ r. ⌜ told r (now (w .exit) ∷ now (u .exit) ∷ now (v .exit) ∷ now (eta .exit) ∷ now (d .exit) ∷ [])
+        ≡ SetIdentityScalingAt p (now (w .entry)) (now (u .entry)) (now (v .entry)) (now (eta .entry)) (now (d .entry)) ⌝ }
+{
+    let entries = p.entries;
+    let count = p.count;
+    let same = (w.len() == entries)
+        & (u.len() == entries)
+        & (v.len() == entries)
+        & (eta.len() == count)
+        & (d.len() == count);
+    let no = conelist::refusal(p, same);
+    if no != 0 {
+        return Answer::Refused(no);
+    }
+    identity_in(p, w, u, v, eta, d);
+    Answer::Done
+}

@@ -1,0 +1,116 @@
+// `update_scaling` of one cone of a list (document 01, "Second-order rules" and "Nonnegative rules"; source documents 000, lines 134 to 211, and
+// 001, lines 77 to 90), over the cone's place: by the cone's kind, on the cone's own ranges, and the call.
+use answers::Scaling;
+use conelist::Kind;
+use conelist::Place;
+ghost use mathlib.Core.Path.{_≡_};
+ghost use mathlib.Core.List.{[], _∷_};
+ghost use lib.ListN.{length};
+ghost use Rattle.vecmath.specs.Double.{_!_};
+ghost use Rattle.answers.specs.Refusal.{Fit};
+ghost use Rattle.answers.specs.Outcome.{truth, toldScaling};
+ghost use Rattle.soc_scaling.specs.Scaling.{Stored};
+ghost use Rattle.conelist.specs.Layout.{LeastDim, Open, Of};
+ghost use Rattle.conecalls.specs.At.{entries, number, DoesAt};
+ghost use Rattle.conecalls.specs.Kinds.{KindScaling};
+ghost use Rattle.conecalls.specs.Calls.{UpdateScalingAt};
+
+// A nonnegative cone uses no u, v, η, d: they stay.
+fn kind_scaling(
+    kind: Kind,
+    s: &[f64],
+    z: &[f64],
+    w: &mut [f64],
+    lambda: &mut [f64],
+    u: &mut [f64],
+    v: &mut [f64],
+    eta: &mut f64,
+    d: &mut f64,
+) -> bool
+    requires { ⌜ Fit (LeastDim kind) (length (now s))
+        (length (now z) ∷ length (now w) ∷ length (now lambda) ∷ length (now u) ∷ length (now v) ∷ []) ⌝ }
+    ensures { λ r. ⌜ record {
+      reply = truth r;
+      news = Stored (now (w .exit)) (now (lambda .exit)) (now (u .exit)) (now (v .exit)) (now (eta .exit)) (now (d .exit));
+    }
+        ≡ KindScaling kind (now (s .entry)) (now (z .entry)) (now (w .entry)) (now (lambda .entry)) (now (u .entry)) (now (v .entry))
+        (now (eta .entry)) (now (d .entry)) ⌝ }
+{
+    match kind {
+        Kind::Nonnegative(n) => nn_scaling::update_scaling(s, z, w, lambda),
+        Kind::SecondOrder(n) => soc_scaling::update_scaling(s, z, w, lambda, u, v, eta, d),
+    }
+}
+
+fn scaling_in(
+    p: Place,
+    s: &[f64],
+    z: &[f64],
+    w: &mut [f64],
+    lambda: &mut [f64],
+    u: &mut [f64],
+    v: &mut [f64],
+    eta: &mut [f64],
+    d: &mut [f64],
+) -> bool
+    requires { ⌜ Open p ((length (now w), p .entries) ∷ (length (now lambda), p .entries) ∷ (length (now u), p .entries)
+        ∷ (length (now v), p .entries) ∷ (length (now eta), p .count) ∷ (length (now d), p .count) ∷ (length (now s), p .entries)
+        ∷ (length (now z), p .entries) ∷ []) ⌝ }
+    ensures { λ r. ⌜ record {
+      reply = truth r;
+      news = now (w .exit) ∷ now (lambda .exit) ∷ now (u .exit) ∷ now (v .exit) ∷ now (eta .exit) ∷ now (d .exit) ∷ [];
+    }
+        ≡ DoesAt p ((entries, now (w .entry)) ∷ (entries, now (lambda .entry)) ∷ (entries, now (u .entry)) ∷ (entries, now (v .entry))
+        ∷ (number, now (eta .entry)) ∷ (number, now (d .entry)) ∷ [])
+        (KindScaling (p .kind) (Of p (now (s .entry))) (Of p (now (z .entry))) (Of p (now (w .entry))) (Of p (now (lambda .entry)))
+        (Of p (now (u .entry))) (Of p (now (v .entry))) (now (eta .entry) ! (p .index)) (now (d .entry) ! (p .index))) ⌝ }
+{
+    let at = p.start;
+    let kind = p.kind;
+    let k = p.index;
+    let end = at + conelist::dim(kind);
+    kind_scaling(
+        kind,
+        &s[at..end],
+        &z[at..end],
+        &mut w[at..end],
+        &mut lambda[at..end],
+        &mut u[at..end],
+        &mut v[at..end],
+        &mut eta[k],
+        &mut d[k],
+    )
+}
+
+pub fn update_scaling_at(
+    p: Place,
+    s: &[f64],
+    z: &[f64],
+    w: &mut [f64],
+    lambda: &mut [f64],
+    u: &mut [f64],
+    v: &mut [f64],
+    eta: &mut [f64],
+    d: &mut [f64],
+) -> Scaling
+    ensures { λ r. ⌜ toldScaling r
+        (now (w .exit) ∷ now (lambda .exit) ∷ now (u .exit) ∷ now (v .exit) ∷ now (eta .exit) ∷ now (d .exit) ∷ [])
+        ≡ UpdateScalingAt p (now (s .entry)) (now (z .entry)) (now (w .entry)) (now (lambda .entry)) (now (u .entry)) (now (v .entry))
+        (now (eta .entry)) (now (d .entry)) ⌝ }
+{
+    let entries = p.entries;
+    let count = p.count;
+    let same = (w.len() == entries)
+        & (lambda.len() == entries)
+        & (u.len() == entries)
+        & (v.len() == entries)
+        & (eta.len() == count)
+        & (d.len() == count)
+        & (s.len() == entries)
+        & (z.len() == entries);
+    let no = conelist::refusal(p, same);
+    if no != 0 {
+        return Scaling::Refused(no);
+    }
+    Scaling::Told(scaling_in(p, s, z, w, lambda, u, v, eta, d))
+}
