@@ -1,0 +1,13 @@
+-- `list_mul_hs::mul_hs_in` meets its contract. Assumes nothing.
+use borrow.Author.Needs.{needs}
+use Rattle.conelist.proofs.Placed.{lent, back}
+use Rattle.list_mul_hs.proofs.mul_hs_in.Statement.{statement}
+use Rattle.list_mul_hs.proofs.mul_hs_in.Tie as tie
+
+pub mul-hs-in-spec : {M : Type 1} → statement M
+mul-hs-in-spec =
+    tie.close (tie.spec
+    (λ c κs. search needs) (λ c. search needs) (λ c. search needs) (λ c. search needs) (λ c. search needs) (λ c. search needs) (λ c. search needs) (λ c. search needs) (λ c. search needs) (λ c. search needs) (λ c. search needs) (λ c. search needs) (λ c. search needs) (λ c. search needs) (λ c. search needs) (λ c. search needs) (λ c κs. search needs) (λ c. search needs)
+    (λ c.
+    let long = c .before .before .before .before .before .before .before .dim .ensures in
+    back long _ _ (simp (lent long) at (c .before .before .kind-mul-hs .ensures))))

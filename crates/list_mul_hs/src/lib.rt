@@ -1,0 +1,54 @@
+// The product with Hs of one cone of a list (document 01, "Second-order rules" and "Nonnegative rules"; source documents 000, lines 248 to 256,
+// and 001, lines 103 to 108), over the cone's place: by the cone's kind, on the cone's own ranges, and the call.
+use answers::Answer;
+use conelist::Kind;
+use conelist::Place;
+ghost use mathlib.Core.Path.{_≡_};
+ghost use mathlib.Core.List.{[], _∷_};
+ghost use lib.ListN.{length};
+ghost use Rattle.vecmath.specs.Double.{_!_};
+ghost use Rattle.answers.specs.Refusal.{Fit};
+ghost use Rattle.answers.specs.Outcome.{told};
+ghost use Rattle.conelist.specs.Layout.{LeastDim, Open, Of, With};
+ghost use Rattle.conecalls.specs.Kinds.{KindMulHs};
+ghost use Rattle.conecalls.specs.Calls.{MulHsAt};
+
+fn kind_mul_hs(kind: Kind, y: &mut [f64], x: &[f64], w: &[f64], eta: f64)
+    requires { ⌜ Fit (LeastDim kind) (length (now y)) (length (now x) ∷ length (now w) ∷ []) ⌝ }
+    ensures { λ _. ⌜ now (y .exit) ≡ KindMulHs kind (now (x .entry)) (now (w .entry)) eta ⌝ }
+{
+    match kind {
+        Kind::Nonnegative(n) => nn_products::mul_hs(y, x, w),
+        Kind::SecondOrder(n) => soc_products::mul_hs(y, x, w, eta),
+    }
+}
+
+fn mul_hs_in(p: Place, y: &mut [f64], x: &[f64], w: &[f64], eta: &[f64])
+    requires { ⌜ Open p ((length (now y), p .entries) ∷ (length (now x), p .entries) ∷ (length (now w), p .entries) ∷ (length (now eta), p .count) ∷ []) ⌝ }
+    ensures { λ _. ⌜ now (y .exit) ≡ With p (now (y .entry))
+        (KindMulHs (p .kind) (Of p (now (x .entry))) (Of p (now (w .entry))) (now (eta .entry) ! (p .index))) ⌝ }
+{
+    let at = p.start;
+    let kind = p.kind;
+    let end = at + conelist::dim(kind);
+    let k = p.index;
+    kind_mul_hs(kind, &mut y[at..end], &x[at..end], &w[at..end], eta[k]);
+}
+
+// y = Hs·x
+pub fn mul_hs_at(p: Place, y: &mut [f64], x: &[f64], w: &[f64], eta: &[f64]) -> Answer
+    ensures { λ r. ⌜ told r (now (y .exit) ∷ []) ≡ MulHsAt p (now (y .entry)) (now (x .entry)) (now (w .entry)) (now (eta .entry)) ⌝ }
+{
+    let entries = p.entries;
+    let count = p.count;
+    let same = (y.len() == entries)
+        & (x.len() == entries)
+        & (w.len() == entries)
+        & (eta.len() == count);
+    let no = conelist::refusal(p, same);
+    if no != 0 {
+        return Answer::Refused(no);
+    }
+    mul_hs_in(p, y, x, w, eta);
+    Answer::Done
+}

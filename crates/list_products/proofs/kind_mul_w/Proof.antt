@@ -1,0 +1,16 @@
+-- `list_products::kind_mul_w` meets its contract. Assumes nothing.
+use native.Mathlib.Omega.{arith}
+use borrow.Author.Needs.{needs}
+use Rattle.conelist.proofs.Placed.{two-least}
+use Rattle.conecalls.specs.Kinds.{KindMulW}
+use Rattle.list_products.proofs.kind_mul_w.Statement.{statement}
+use Rattle.list_products.proofs.kind_mul_w.Tie as tie
+
+pub kind-mul-w-spec : {M : Type 1} → statement M
+unfolding KindMulW
+kind-mul-w-spec =
+    tie.close (tie.spec
+    (λ c. search needs) (λ c κs. search needs) (λ c. search needs) (λ c κs. omega (arith, two-least)) (λ c. search needs)
+    (λ c. rw (c .before .before .before .before .before .kind .given .1) (search needs))
+    (λ c. search needs)
+    (λ c. rw (c .before .before .before .before .before .kind2 .given .1) (search needs)))
