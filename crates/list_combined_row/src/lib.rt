@@ -1,0 +1,26 @@
+// The shift in the combined step of one cone of a list (document 01; source document 002), over the row of records.
+use answers::Answer;
+use conelist::Cone;
+ghost use mathlib.Core.Path.{_≡_};
+ghost use mathlib.Core.List.{[], _∷_};
+ghost use Rattle.answers.specs.Outcome.{told};
+ghost use Rattle.conelist.specs.Layout.{PlaceOf};
+ghost use Rattle.conecalls.specs.Calls.{CombinedDsShiftAt};
+
+pub fn combined_ds_shift(
+    list: &[Cone],
+    k: usize,
+    shift: &mut [f64],
+    step_z: &mut [f64],
+    step_s: &mut [f64],
+    sigma_mu: f64,
+    w: &[f64],
+    eta: &[f64],
+) -> Answer
+    ensures { λ r. ⌜ told r (now (shift .exit) ∷ now («step_z» .exit) ∷ now («step_s» .exit) ∷ [])
+        ≡ CombinedDsShiftAt (PlaceOf (now (list .entry)) k) (now (shift .entry)) (now («step_z» .entry)) (now («step_s» .entry)) «sigma_mu»
+        (now (w .entry)) (now (eta .entry)) ⌝ }
+{
+    let p = conelist::place_of(list, k);
+    list_combined::combined_ds_shift_at(p, shift, step_z, step_s, sigma_mu, w, eta)
+}
