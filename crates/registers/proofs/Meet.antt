@@ -1,7 +1,7 @@
 -- From a function's contract to `Regs.antt`'s `body`: the parameters' machine values are written out, and what is left is between the contract's `pre`, the computed code and the contract's `post`.
 --     Known R          of a type: its one machine value as a function of the denotation, that its relation tells it, and that it is of the MIR type.        known-uint, known-slice, .. known-struct, known-enum      of each type
 --     Fit, Main        what `proved` asks: `λ κs a t. t` shows the first, and the second is the entailment  pre ⊢ body .. post
---     proved           a function's theorem, at its routine
+--     proved           a function's theorem, at its routine.        proved-walk   the same from a walk of its MIR, where that is not computed
 --     ends             how a proof ends: at a result r and last values ws
 --     calls            a call of `exec`, by the callee's theorem: what is held beside stays, and the result's machine value is written out
 --     reads, checks, branch-yes, branch-no     a read behind a pointer, a test of a type, and a branch whose test is known
@@ -25,6 +25,7 @@ use prog.Wp.{Heap, Calls, WpFn, Closed, Tables, read, branch}
 use ghost.Atoms.{Atoms, sem}
 use sound.WpLaws.{FmC, fmOf}
 use contract.Lifetimes.{Lfts, Shares, AllOutlive}
+use contract.Monad.{Fun}
 use contract.Running.{Running, GhostRules, givenOf, tables, tablesOf}
 use types.Kit.{Given, Item, prop, Step, step, ‵, raw, _⊛_, some, later, _$_, _∵_, !, qed, by, move, pick, await, split, join, frame, show, updating, now as at-once, done}
 use types.Run.{Reads}
@@ -117,20 +118,27 @@ module _ {M : Type 1} (𝓤 : URA M) (H : Heap 𝓤) (A : Atoms 𝓤) where
         → Are (typesAt (S .params) κs) (Ises (typesAt (S .params) κs)) a (spelled κs a)
         → ent 𝓤 (tripleOf 𝓤 H A S c .pre ((κs, qs, bounds, a, spelled κs a), g)) (body 𝓤 H C f (flat (typesAt (S .params) κs) (spelled κs a)) (tripleOf 𝓤 H A S c .post ((κs, qs, bounds, a, spelled κs a), g)))
 
-    pub meets : (W : Given 𝓤 H A) (c : Spec 𝓤 S) (f : Fn) (𝓣 : Tables 𝓤 H) → Fit f → Main c f (𝓣 .C) → Triple 𝓤 (WpFn 𝓤 H (𝓣 .C) (𝓣 .Λ) f) (tripleOf 𝓤 H A S c)
-    meets W c f 𝓣 fits k y =
+    -- the same of any run
+    abbrev pub Runs : Spec 𝓤 S → Fun 𝓤 → Type 1
+    Runs c run = (κs : Lfts (S .lifetimes)) (qs : Shares (S .lifetimes)) (bounds : AllOutlive (S .lifetimes) (S .outlives) κs) (a : Args S κs) (g : c κs a .ghost)
+        → Are (typesAt (S .params) κs) (Ises (typesAt (S .params) κs)) a (spelled κs a)
+        → ent 𝓤 (tripleOf 𝓤 H A S c .pre ((κs, qs, bounds, a, spelled κs a), g)) (run (flat (typesAt (S .params) κs) (spelled κs a)) (tripleOf 𝓤 H A S c .post ((κs, qs, bounds, a, spelled κs a), g)))
+
+    pub meets-run : (c : Spec 𝓤 S) (run : Fun 𝓤) → Runs c run → Triple 𝓤 run (tripleOf 𝓤 H A S c)
+    meets-run c run k y =
         let R : SProp 𝓤 = c (y .0 .0) (y .0 .3) .requires (y .1) in
-        let Q : Vals S (y .0 .0) → SProp 𝓤 = λ us. WpFn 𝓤 H (𝓣 .C) (𝓣 .Λ) f (flat (typesAt (S .params) (y .0 .0)) us) (tripleOf 𝓤 H A S c .post ((y .0 .0, y .0 .1, y .0 .2, y .0 .3, us), y .1)) in
+        let Q : Vals S (y .0 .0) → SProp 𝓤 = λ us. run (flat (typesAt (S .params) (y .0 .0)) us) (tripleOf 𝓤 H A S c .post ((y .0 .0, y .0 .1, y .0 .2, y .0 .3, us), y .1)) in
         via 𝓤 (sep 𝓤 R (wand 𝓤 R (Q (y .0 .4))))
         (via 𝓤 (sep 𝓤 (wand 𝓤 R (Q (y .0 .4))) R)
         (monoL 𝓤 R (said 𝓤 H A S (y .0 .0) (y .0 .1) (spellsOf (typesAt (S .params) (y .0 .0)) (ks (y .0 .0))) (tellssOf (typesAt (S .params) (y .0 .0)) (ks (y .0 .0))) (y .0 .3) (λ us. wand 𝓤 R (Q us)) (y .0 .4)
-        (λ are. wandI 𝓤 (onEntry 𝓤 H A S (y .0 .0) (y .0 .1) (y .0 .3) (spelled (y .0 .0) (y .0 .3))) R (Q (spelled (y .0 .0) (y .0 .3)))
-        (via 𝓤 (body 𝓤 H (𝓣 .C) f (flat (typesAt (S .params) (y .0 .0)) (spelled (y .0 .0) (y .0 .3))) (tripleOf 𝓤 H A S c .post ((y .0 .0, y .0 .1, y .0 .2, y .0 .3, spelled (y .0 .0) (y .0 .3)), y .1)))
-        (k (y .0 .0) (y .0 .1) (y .0 .2) (y .0 .3) (y .1) are)
-        (runs-body 𝓤 H A W 𝓣 (flat (typesAt (S .params) (y .0 .0)) (spelled (y .0 .0) (y .0 .3))) (tripleOf 𝓤 H A S c .post ((y .0 .0, y .0 .1, y .0 .2, y .0 .3, spelled (y .0 .0) (y .0 .3)), y .1)) f
-        (fits (y .0 .0) (y .0 .3) (typedOf (typesAt (S .params) (y .0 .0)) (ks (y .0 .0)) (y .0 .3) are)))))))
+        (λ are. wandI 𝓤 (onEntry 𝓤 H A S (y .0 .0) (y .0 .1) (y .0 .3) (spelled (y .0 .0) (y .0 .3))) R (Q (spelled (y .0 .0) (y .0 .3))) (k (y .0 .0) (y .0 .1) (y .0 .2) (y .0 .3) (y .1) are))))
         (comm∗ 𝓤 (wand 𝓤 R (Q (y .0 .4))) R))
         (apply∗ 𝓤 R (Q (y .0 .4)))
+
+    pub meets : (W : Given 𝓤 H A) (c : Spec 𝓤 S) (f : Fn) (𝓣 : Tables 𝓤 H) → Fit f → Main c f (𝓣 .C) → Triple 𝓤 (WpFn 𝓤 H (𝓣 .C) (𝓣 .Λ) f) (tripleOf 𝓤 H A S c)
+    meets W c f 𝓣 fits k = meets-run c (WpFn 𝓤 H (𝓣 .C) (𝓣 .Λ) f) (λ κs qs bounds a g are.
+        via 𝓤 (body 𝓤 H (𝓣 .C) f (flat (typesAt (S .params) κs) (spelled κs a)) (tripleOf 𝓤 H A S c .post ((κs, qs, bounds, a, spelled κs a), g))) (k κs qs bounds a g are)
+        (runs-body 𝓤 H A W 𝓣 (flat (typesAt (S .params) κs) (spelled κs a)) (tripleOf 𝓤 H A S c .post ((κs, qs, bounds, a, spelled κs a), g)) f (fits κs a (typedOf (typesAt (S .params) κs) (ks κs) a are))))
 
 read-in : {M : Type 1} (𝓤 : URA M) (H : Heap 𝓤) (τ : Ty) (b o : ℕ) (Kt : Val → SProp 𝓤) → ent 𝓤 (read 𝓤 H τ b o Kt) (reading 𝓤 H τ b o Kt)
 unfolding reading
@@ -178,6 +186,13 @@ module _ {M : Type 1} (𝓤 : URA M) (H : Heap 𝓤) (𝓜 : Model 𝓤 H) (𝓖
   unfolding tablesOf
   proved S c γ k f closed ks fits main =
       entered 𝓤 H (tripleOf 𝓤 H (𝓖 .A) S c) (tables 𝓤 H 𝓜 𝓡 γ .C) (tables 𝓤 H 𝓜 𝓡 γ .Λ) k f closed (meets 𝓤 H (𝓖 .A) S ks (givenOf 𝓤 H 𝓜 𝓖) c f (tablesOf 𝓤 H 𝓜 (tables 𝓤 H 𝓜 𝓡 γ)) fits (main (fmOf 𝓤 H (givenOf 𝓤 H 𝓜 𝓖 .laws) (tablesOf 𝓤 H 𝓜 (tables 𝓤 H 𝓜 𝓡 γ)))))
+
+  -- where the MIR is not computed: by a walk of it
+  pub proved-walk : (S : Signature) (c : Spec 𝓤 S) (γ : Env) (k : Name) (f : Fn) → Closed 𝓤 H (tables 𝓤 H 𝓜 𝓡 γ .C) (tables 𝓤 H 𝓜 𝓡 γ .Λ) k f → (ks : (κs : Lfts (S .lifetimes)) → Knowns 𝓤 H (𝓖 .A) (typesAt (S .params) κs))
+      → (FmC 𝓤 H (givenOf 𝓤 H 𝓜 𝓖 .laws) (tables 𝓤 H 𝓜 𝓡 γ .C) → Runs 𝓤 H (𝓖 .A) S ks c (WpFn 𝓤 H (tables 𝓤 H 𝓜 𝓡 γ .C) (tables 𝓤 H 𝓜 𝓡 γ .Λ) f)) → Triple 𝓤 (𝓡 .run (γ k)) (tripleOf 𝓤 H (𝓖 .A) S c)
+  unfolding tablesOf
+  proved-walk S c γ k f closed ks walk =
+      entered 𝓤 H (tripleOf 𝓤 H (𝓖 .A) S c) (tables 𝓤 H 𝓜 𝓡 γ .C) (tables 𝓤 H 𝓜 𝓡 γ .Λ) k f closed (meets-run 𝓤 H (𝓖 .A) S ks c (WpFn 𝓤 H (tables 𝓤 H 𝓜 𝓡 γ .C) (tables 𝓤 H 𝓜 𝓡 γ .Λ) f) (walk (fmOf 𝓤 H (givenOf 𝓤 H 𝓜 𝓖 .laws) (tablesOf 𝓤 H 𝓜 (tables 𝓤 H 𝓜 𝓡 γ)))))
 
 -- ---- a call, as `Regs.antt` has it: the callee's theorem, at arguments of the caller's choice. Whatever else is held, R, stays. The result's machine value is written out
 module _ {M : Type 1} (𝓤 : URA M) (H : Heap 𝓤) (A : Atoms 𝓤) (W : Given 𝓤 H A) (C : Calls 𝓤 H) (fm : FmC 𝓤 H (W .laws) C) (f : Name) (E : Ended) (c : Clauses 𝓤 E) (met : Triple 𝓤 (C f) (tripleOf 𝓤 H A (E .signature) (closing 𝓤 H A E c)))

@@ -1,0 +1,2 @@
+-- `Front`: how many records of an array are lent.
+pub mod Front
