@@ -98,3 +98,9 @@ pub fn bits(x: f64) {
         hex(f64::to_bits(x));
     }
 }
+
+// A refusal by its number.
+pub fn refused(no: u8) {
+    text(b"refused ");
+    decimal(no as u64);
+}

@@ -57,11 +57,6 @@ fn greatests() {
     line_greatest(b"greatest of NaN, NaN", 0.0 / 0.0, 0.0 / 0.0);
 }
 
-fn refused(no: u8) {
-    show::text(b"refused ");
-    show::decimal(no as u64);
-}
-
 fn space_number(x: f64) {
     show::text(b" ");
     show::number(x);
@@ -96,12 +91,12 @@ fn line_residual(of: &[u8], z: &[f64]) {
     show::label(of);
     match soc_residual::soc_residual(z) {
         Number::Is(r) => show::number(r),
-        Number::Refused(no) => refused(no),
+        Number::Refused(no) => show::refused(no),
     }
     show::text(b" ");
     match standing::soc_standing(z) {
         Stands::As(x) => standing(x),
-        Stands::Refused(no) => refused(no),
+        Stands::Refused(no) => show::refused(no),
     }
     show::newline();
 }
@@ -110,7 +105,7 @@ fn line_nn_standing(of: &[u8], z: &[f64]) {
     show::label(of);
     match standing::nn_standing(z) {
         Stands::As(x) => standing(x),
-        Stands::Refused(no) => refused(no),
+        Stands::Refused(no) => show::refused(no),
     }
     show::newline();
 }
@@ -142,7 +137,7 @@ fn line_scaling(of: &[u8], s: &[f64], z: &[f64]) {
                 show::text(b"false");
             }
         }
-        Scaling::Refused(no) => refused(no),
+        Scaling::Refused(no) => show::refused(no),
     }
     space_number(eta);
     vector(&w);
@@ -153,7 +148,7 @@ fn line_scaling(of: &[u8], s: &[f64], z: &[f64]) {
 fn step(told: Step) {
     match told {
         Step::Length(a) => show::number(a),
-        Step::Refused(no) => refused(no),
+        Step::Refused(no) => show::refused(no),
     }
     show::newline();
 }
@@ -175,7 +170,7 @@ fn line_identity(of: &[u8], w: &mut [f64], u: &mut [f64], v: &mut [f64]) {
     let mut d = 1.0;
     match soc_scaling::soc_set_identity_scaling(w, u, v, &mut eta, &mut d) {
         Answer::Done => show::text(b"done"),
-        Answer::Refused(no) => refused(no),
+        Answer::Refused(no) => show::refused(no),
     }
     space_number(eta);
     space_number(d);

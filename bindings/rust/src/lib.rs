@@ -1,0 +1,261 @@
+//! The proved cone kernels, as safe Rust. Each call takes any lengths and any numbers, NaN included; its
+//! answer is a value or the first refusal that applies, and a refused call has written nothing. What each
+//! call computes is said in `include/akmuzrel.h` and proved in the crates beside it.
+//!
+//! `soc` and `nn` have the calls on one second-order or nonnegative cone by itself, `list` those on a cone
+//! of a list: the row of cones and the cone's index come first, and every buffer is that of the whole list.
+
+#[macro_use]
+mod call;
+
+use std::fmt;
+
+/// Why a call was refused, by the library's numbers.
+#[derive(Clone, Copy, Debug, PartialEq, Eq)]
+#[repr(u8)]
+pub enum Refusal {
+    /// A dimension is outside its range: 2 to 4,096 for second-order, 0 to 4,096 for nonnegative cones.
+    Dimension = 1,
+    /// Over 256 cones, or over 65,536 entries in all.
+    Size = 2,
+    /// A cone does not start where the one before it ends.
+    Start = 3,
+    /// The cone named is not in the list.
+    Cone = 4,
+    /// A slice has the wrong length.
+    Length = 5,
+    /// A step's limit is NaN or below zero.
+    Limit = 6,
+    /// The square block is asked of a cone that has none: it is nonnegative, or has over 4 entries.
+    NotDense = 7,
+}
+
+impl Refusal {
+    fn of(number: u8) -> Result<(), Refusal> {
+        use Refusal::*;
+        let refusals = [Dimension, Size, Start, Cone, Length, Limit, NotDense];
+        match number.checked_sub(1) {
+            None => Ok(()),
+            Some(at) => Err(refusals[usize::from(at)]),
+        }
+    }
+}
+
+impl fmt::Display for Refusal {
+    fn fmt(&self, to: &mut fmt::Formatter) -> fmt::Result {
+        to.write_str(match self {
+            Refusal::Dimension => "a dimension is outside its range",
+            Refusal::Size => "over 256 cones, or over 65,536 entries",
+            Refusal::Start => "a cone does not start where the one before it ends",
+            Refusal::Cone => "the cone named is not in the list",
+            Refusal::Length => "a slice has the wrong length",
+            Refusal::Limit => "the limit is NaN or below zero",
+            Refusal::NotDense => "the cone has no square block",
+        })
+    }
+}
+
+impl std::error::Error for Refusal {}
+
+/// Where a point stands towards its cone.
+#[derive(Clone, Copy, Debug, PartialEq, Eq)]
+#[repr(u8)]
+pub enum Standing {
+    Inside = 0,
+    Edge = 1,
+    Outside = 2,
+    /// Inside the mirror image of a second-order cone.
+    Mirrored = 3,
+    NotNumber = 4,
+}
+
+impl Standing {
+    fn of(number: u8) -> Standing {
+        use Standing::*;
+        [Inside, Edge, Outside, Mirrored, NotNumber][usize::from(number)]
+    }
+}
+
+#[derive(Clone, Copy, Debug, PartialEq, Eq)]
+#[repr(usize)]
+pub enum Kind {
+    Nonnegative = 0,
+    SecondOrder = 1,
+}
+
+/// A record of a list of cones: where its entries start in each buffer, what it is, and how many it has.
+#[derive(Clone, Copy, Debug, PartialEq, Eq)]
+#[repr(C)]
+pub struct Cone {
+    pub start: usize,
+    pub kind: Kind,
+    pub dimension: usize,
+}
+
+/// The records of cones that lie one behind the other.
+pub fn row(cones: &[(Kind, usize)]) -> Vec<Cone> {
+    let mut start = 0;
+    let lay = |&(kind, dimension): &(Kind, usize)| {
+        let cone = Cone { start, kind, dimension };
+        start += dimension;
+        cone
+    };
+    cones.iter().map(lay).collect()
+}
+
+/// How many numbers a cone's block has in the buffer of the blocks.
+pub fn block_numbers(kind: Kind, dimension: usize) -> usize {
+    match kind {
+        Kind::SecondOrder if dimension <= 4 => dimension * (dimension + 1) / 2,
+        _ => dimension,
+    }
+}
+
+/// The block of a cone of up to 4 entries as a matrix, by rows; +0 beyond the dimension.
+pub type Square = [[f64; 4]; 4];
+
+#[repr(C)]
+struct SquareAnswer {
+    number: u8,
+    rows: Square,
+}
+
+/// Operations on numbers.
+pub mod numbers {
+    extern "C" {
+        fn akm_sqrt(x: f64) -> f64;
+        fn akm_least(a: f64, b: f64) -> f64;
+        fn akm_greatest(a: f64, b: f64) -> f64;
+    }
+
+    /// The double nearest the root.
+    pub fn sqrt(x: f64) -> f64 {
+        unsafe { akm_sqrt(x) }
+    }
+
+    /// A NaN counts as missing; of two opposite zeros the first.
+    pub fn least(a: f64, b: f64) -> f64 {
+        unsafe { akm_least(a, b) }
+    }
+
+    /// A NaN counts as missing; of two opposite zeros the first.
+    pub fn greatest(a: f64, b: f64) -> f64 {
+        unsafe { akm_greatest(a, b) }
+    }
+}
+
+/// The second-order cone by itself. A cone of up to 4 entries is dense and keeps u, v and d as they are.
+pub mod soc {
+    calls! {
+        /// (z0 - |z1|) * (z0 + |z1|), z1 the entries from 1 on.
+        residual: akm_soc_residual(reads z) -> number;
+        /// The residual of z + alpha*dz.
+        residual_shifted: akm_soc_residual_shifted(reads z, reads dz, number alpha) -> number;
+        /// The residual's root where it is above 0, else 0.
+        sqrt_residual: akm_sqrt_soc_residual(reads z) -> number;
+        /// z0 - |z1|, and the greatest of 0 and that.
+        margins: akm_soc_margins(reads z) -> pair;
+        /// z += alpha*(1, 0, ..)
+        scaled_unit_shift: akm_soc_scaled_unit_shift(writes z, number alpha) -> done;
+        /// z = s = (1, 0, ..)
+        unit_initialization: akm_soc_unit_initialization(writes z, writes s) -> done;
+        standing: akm_soc_standing(reads z) -> standing;
+        set_identity_scaling: akm_soc_set_identity_scaling(writes w, writes u, writes v, stores eta, stores d) -> done;
+        /// False where s, z or w has no root scale: then w and eta may have been written, and no more.
+        update_scaling: akm_soc_update_scaling(reads s, reads z, writes w, writes lambda, writes u, writes v, stores eta, stores d) -> truth;
+        /// The block: n numbers for n above 4, else n(n+1)/2, the upper triangle by columns.
+        get_hs: akm_soc_get_hs(writes hs, reads w, lent eta, lent d) -> done;
+        square_hs: akm_soc_square_hs(reads w, lent eta) -> square;
+        /// y = alpha*W*x + beta*y
+        mul_w: akm_soc_mul_w(writes y, reads x, number alpha, number beta, reads w, lent eta) -> done;
+        /// y = alpha*W⁻¹*x + beta*y
+        mul_winv: akm_soc_mul_winv(writes y, reads x, number alpha, number beta, reads w, lent eta) -> done;
+        /// y = Hs*x
+        mul_hs: akm_soc_mul_hs(writes y, reads x, reads w, lent eta) -> done;
+        /// x = y ∘ z
+        circ_op: akm_soc_circ_op(writes x, reads y, reads z) -> done;
+        /// The x whose product with y is z.
+        inv_circ_op: akm_soc_inv_circ_op(writes x, reads y, reads z) -> done;
+        /// The x whose product with lambda is z.
+        lambda_inv_circ_op: akm_soc_lambda_inv_circ_op(writes x, reads z, reads lambda) -> done;
+        /// ds = lambda ∘ lambda
+        affine_ds: akm_soc_affine_ds(writes ds, reads lambda) -> done;
+        /// The constant part of Δs as a function of Δz.
+        ds_from_dz_offset: akm_soc_ds_from_dz_offset(writes out, reads ds, reads z, reads w, reads lambda, lent eta) -> done;
+        /// shift = Δs ∘ Δz - sigma_mu*(1, 0, ..), with Δz = W*step_z and Δs = W⁻¹*step_s, which are left in step_z and step_s.
+        combined_ds_shift: akm_soc_combined_ds_shift(writes shift, writes step_z, writes step_s, number sigma_mu, reads w, lent eta) -> done;
+        /// How far x may go along y, at most the limit.
+        step: akm_soc_step(reads x, reads y, number limit) -> number;
+        /// z along dz, and s along ds.
+        step_length: akm_soc_step_length(reads dz, reads ds, reads z, reads s, number limit) -> pair;
+    }
+}
+
+/// The nonnegative cone by itself: the same calls, entry by entry.
+pub mod nn {
+    calls! {
+        /// The least entry, from infinity; the sum of the entries above 0.
+        margins: akm_nn_margins(reads z) -> pair;
+        /// z += alpha
+        scaled_unit_shift: akm_nn_scaled_unit_shift(writes z, number alpha) -> done;
+        /// z = s = (1, 1, ..)
+        unit_initialization: akm_nn_unit_initialization(writes z, writes s) -> done;
+        standing: akm_nn_standing(reads z) -> standing;
+        /// w = (1, 1, ..)
+        set_identity_scaling: akm_nn_set_identity_scaling(writes w) -> done;
+        /// lambda = √(s*z), w = √(s/z); always true.
+        update_scaling: akm_nn_update_scaling(reads s, reads z, writes w, writes lambda) -> truth;
+        /// hs = w*w
+        get_hs: akm_nn_get_hs(writes hs, reads w) -> done;
+        /// y = w*(w*x)
+        mul_hs: akm_nn_mul_hs(writes y, reads x, reads w) -> done;
+        /// ds = lambda*lambda
+        affine_ds: akm_nn_affine_ds(writes ds, reads lambda) -> done;
+        /// out = ds/z
+        ds_from_dz_offset: akm_nn_ds_from_dz_offset(writes out, reads ds, reads z) -> done;
+        /// y = alpha*(x*w) + beta*y
+        mul_w: akm_nn_mul_w(writes y, reads x, number alpha, number beta, reads w) -> done;
+        /// y = alpha*(x/w) + beta*y
+        mul_winv: akm_nn_mul_winv(writes y, reads x, number alpha, number beta, reads w) -> done;
+        /// x = y*z
+        circ_op: akm_nn_circ_op(writes x, reads y, reads z) -> done;
+        /// x = z/y
+        inv_circ_op: akm_nn_inv_circ_op(writes x, reads y, reads z) -> done;
+        /// x = z/lambda
+        lambda_inv_circ_op: akm_nn_lambda_inv_circ_op(writes x, reads z, reads lambda) -> done;
+        /// As for the second-order cone, with 1 in every entry of the unit.
+        combined_ds_shift: akm_nn_combined_ds_shift(writes shift, writes step_z, writes step_s, number sigma_mu, reads w) -> done;
+        /// How far x may go along y, at most the limit.
+        step: akm_nn_step(reads x, reads y, number limit) -> number;
+        /// z along dz, and s along ds.
+        step_length: akm_nn_step_length(reads dz, reads ds, reads z, reads s, number limit) -> pair;
+    }
+}
+
+/// One cone of a list. The vectors are as long as all entries together, `eta` and `d` have a number for each
+/// cone, `hs` holds each cone's block behind the other; nothing outside the cone's own ranges is read or written.
+pub mod list {
+    calls! {
+        margins: akm_list_margins(row list, index k, reads z) -> pair;
+        scaled_unit_shift: akm_list_scaled_unit_shift(row list, index k, writes z, number alpha) -> done;
+        unit_initialization: akm_list_unit_initialization(row list, index k, writes z, writes s) -> done;
+        set_identity_scaling: akm_list_set_identity_scaling(row list, index k, writes w, writes u, writes v, writes eta, writes d) -> done;
+        /// False as for the second-order cone by itself; true for a nonnegative one.
+        update_scaling: akm_list_update_scaling(row list, index k, reads s, reads z, writes w, writes lambda, writes u, writes v, writes eta, writes d) -> truth;
+        get_hs: akm_list_get_hs(row list, index k, writes hs, reads w, reads eta, reads d) -> done;
+        square_hs: akm_list_square_hs(row list, index k, reads w, reads eta) -> square;
+        mul_hs: akm_list_mul_hs(row list, index k, writes y, reads x, reads w, reads eta) -> done;
+        affine_ds: akm_list_affine_ds(row list, index k, writes ds, reads lambda) -> done;
+        combined_ds_shift: akm_list_combined_ds_shift(row list, index k, writes shift, writes step_z, writes step_s, number sigma_mu, reads w, reads eta) -> done;
+        ds_from_dz_offset: akm_list_ds_from_dz_offset(row list, index k, writes out, reads ds, reads z, reads w, reads lambda, reads eta) -> done;
+        step_length: akm_list_step_length(row list, index k, reads dz, reads ds, reads z, reads s, number limit) -> pair;
+        mul_w: akm_list_mul_w(row list, index k, writes y, reads x, number alpha, number beta, reads w, reads eta) -> done;
+        mul_winv: akm_list_mul_winv(row list, index k, writes y, reads x, number alpha, number beta, reads w, reads eta) -> done;
+        circ_op: akm_list_circ_op(row list, index k, writes x, reads y, reads z) -> done;
+        inv_circ_op: akm_list_inv_circ_op(row list, index k, writes x, reads y, reads z) -> done;
+        lambda_inv_circ_op: akm_list_lambda_inv_circ_op(row list, index k, writes x, reads z, reads lambda) -> done;
+        standing: akm_list_standing(row list, index k, reads z) -> standing;
+        /// The whole list's step: each cone's at the caller's limit, and of each side the least; the limit twice for no cones.
+        whole_step_length: akm_whole_step_length(row list, reads dz, reads ds, reads z, reads s, number limit) -> pair;
+    }
+}

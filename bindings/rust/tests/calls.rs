@@ -1,0 +1,126 @@
+//! The small examples of the rules, every refusal, and a cone of a list beside the same cone by itself.
+use akmuzrel::{block_numbers, list, nn, numbers, row, soc, Cone, Kind, Refusal, Standing};
+use Kind::{Nonnegative, SecondOrder};
+
+const CONES: [(Kind, usize); 4] = [(Nonnegative, 3), (SecondOrder, 2), (SecondOrder, 5), (Nonnegative, 0)];
+
+/// Points inside every cone of the row, and a direction.
+fn point() -> Vec<f64> {
+    vec![1.0, 2.0, 3.0, 5.0, 3.0, 9.0, 1.0, 2.0, 3.0, 4.0]
+}
+
+fn direction() -> Vec<f64> {
+    vec![-1.0, 1.0, -0.5, -1.0, 2.0, 0.5, -4.0, 1.0, 0.25, 7.0]
+}
+
+/// The cone's own range of a buffer with a number for each entry.
+fn own(list: &[Cone], k: usize) -> std::ops::Range<usize> {
+    list[k].start..list[k].start + list[k].dimension
+}
+
+#[test]
+fn small_examples() {
+    assert_eq!(numbers::sqrt(2.0).to_bits(), 0x3ff6_a09e_667f_3bcd);
+    assert_eq!(soc::residual(&[5.0, 3.0]), Ok(16.0));
+    assert_eq!(soc::standing(&[-2.0, 0.0]), Ok(Standing::Mirrored));
+    assert_eq!(nn::standing(&[1.0, 0.0]), Ok(Standing::Edge));
+    assert_eq!(nn::step(&[4.0, 1.0, 9.0], &[-1.0, 2.0, -3.0], 10.0), Ok(3.0));
+    assert_eq!(nn::step(&[f64::NAN], &[-1.0], 1.0), Ok(1.0));
+    assert_eq!(soc::step(&[5.0, 0.0], &[0.0, 1.0], 10.0), Ok(5.0));
+    assert_eq!(soc::step(&[1.0, 0.0], &[-1.0, 1.0], 1.0), Ok(1.0));
+    assert_eq!(soc::step(&[1.0, 1.0], &[0.0, -1.0], 1.0), Ok(0.0));
+}
+
+#[test]
+fn scaling() {
+    let (mut w, mut lambda, mut u, mut v) = ([0.0; 2], [7.0; 2], [0.0; 2], [0.0; 2]);
+    let (mut eta, mut d) = (0.0, 1.0);
+    let told = soc::update_scaling(&[5.0, 3.0], &[5.0, -3.0], &mut w, &mut lambda, &mut u, &mut v, &mut eta, &mut d);
+    assert_eq!((told, eta, w, lambda), (Ok(true), 1.0, [1.25, 0.75], [4.0, 0.0]));
+    lambda = [7.0; 2];
+    let told = soc::update_scaling(&[2.0, 0.0], &[-2.0, 0.0], &mut w, &mut lambda, &mut u, &mut v, &mut eta, &mut d);
+    assert_eq!((told, eta, w, lambda), (Ok(false), 1.0, [0.0, 0.0], [7.0, 7.0]));
+}
+
+#[test]
+fn refusals_of_one_cone() {
+    assert_eq!(soc::residual(&[1.0]), Err(Refusal::Dimension));
+    assert_eq!(nn::margins(&[1.0; 4097]), Err(Refusal::Dimension));
+    let mut y = [7.0; 2];
+    assert_eq!(nn::mul_hs(&mut y, &[1.0], &[1.0; 2]), Err(Refusal::Length));
+    assert_eq!(y, [7.0; 2]);
+    assert_eq!(nn::step(&[1.0], &[1.0], -1.0), Err(Refusal::Limit));
+    assert_eq!(nn::step(&[1.0], &[1.0], f64::NAN), Err(Refusal::Limit));
+    assert_eq!(nn::step(&[1.0], &[1.0], -0.0), Ok(0.0));
+    assert_eq!(soc::square_hs(&[1.0; 5], 1.0), Err(Refusal::NotDense));
+}
+
+#[test]
+fn refusals_of_a_list() {
+    let margins = |list: &[Cone], k, n| list::margins(list, k, &vec![1.0; n]);
+    assert_eq!(margins(&row(&[(Nonnegative, 1); 256]), 255, 256), Ok((1.0, 1.0)));
+    assert_eq!(margins(&row(&[(Nonnegative, 1); 257]), 0, 257), Err(Refusal::Size));
+    assert_eq!(margins(&row(&[(Nonnegative, 4096); 16]), 15, 65536), Ok((1.0, 4096.0)));
+    assert_eq!(margins(&row(&[(Nonnegative, 4096); 17]), 0, 69632), Err(Refusal::Size));
+    assert_eq!(margins(&row(&[(SecondOrder, 1)]), 0, 1), Err(Refusal::Dimension));
+    let mut list = row(&CONES);
+    list[2].start += 1;
+    assert_eq!(margins(&list, 0, 10), Err(Refusal::Start));
+    let list = row(&CONES);
+    assert_eq!(margins(&list, 4, 10), Err(Refusal::Cone));
+    assert_eq!(margins(&list, 0, 9), Err(Refusal::Length));
+    assert_eq!(margins(&list, 0, 11), Err(Refusal::Length));
+    assert_eq!(list::square_hs(&list, 0, &point(), &[1.0; 4]), Err(Refusal::NotDense));
+    assert_eq!(list::square_hs(&list, 2, &point(), &[1.0; 4]), Err(Refusal::NotDense));
+    assert!(list::square_hs(&list, 1, &point(), &[1.0; 4]).is_ok());
+}
+
+#[test]
+fn a_cone_of_a_list_is_the_cone_by_itself() {
+    let list = row(&CONES);
+    let (z, dz) = (point(), direction());
+    let (w, eta) = (point(), [2.0, 3.0, 0.5, 1.0]);
+    for k in 0..list.len() {
+        let at = own(&list, k);
+        let mut all = vec![7.0; 10];
+        list::mul_w(&list, k, &mut all, &z, 2.0, -1.0, &w, &eta).unwrap();
+        let mut one = vec![7.0; at.len()];
+        match list[k].kind {
+            Nonnegative => nn::mul_w(&mut one, &z[at.clone()], 2.0, -1.0, &w[at.clone()]),
+            SecondOrder => soc::mul_w(&mut one, &z[at.clone()], 2.0, -1.0, &w[at.clone()], eta[k]),
+        }
+        .unwrap();
+        assert_eq!(all[at.clone()], one[..]);
+        assert!(all.iter().enumerate().all(|(i, &x)| at.contains(&i) || x == 7.0));
+
+        let step = match list[k].kind {
+            Nonnegative => nn::step_length(&dz[at.clone()], &z[at.clone()], &z[at.clone()], &w[at.clone()], 9.0),
+            SecondOrder => soc::step_length(&dz[at.clone()], &z[at.clone()], &z[at.clone()], &w[at.clone()], 9.0),
+        };
+        assert_eq!(list::step_length(&list, k, &dz, &z, &z, &w, 9.0), step);
+    }
+}
+
+#[test]
+fn blocks_lie_one_behind_the_other() {
+    let list = row(&CONES);
+    let sizes: Vec<usize> = CONES.iter().map(|&(kind, n)| block_numbers(kind, n)).collect();
+    assert_eq!(sizes, [3, 3, 5, 0]);
+    let mut hs = vec![7.0; 11];
+    list::get_hs(&list, 1, &mut hs, &point(), &[2.0; 4], &[0.5; 4]).unwrap();
+    let mut own = [0.0; 3];
+    soc::get_hs(&mut own, &point()[3..5], 2.0, 0.5).unwrap();
+    assert_eq!(hs[3..6], own);
+    assert!(hs[..3].iter().chain(&hs[6..]).all(|&x| x == 7.0));
+}
+
+#[test]
+fn the_whole_step_is_the_least() {
+    let list = row(&CONES);
+    let (z, dz) = (point(), direction());
+    let each = (0..list.len()).map(|k| list::step_length(&list, k, &dz, &dz, &z, &z, 9.0).unwrap());
+    let least = each.fold((9.0, 9.0), |(a, b): (f64, f64), (c, d)| (a.min(c), b.min(d)));
+    assert_eq!(list::whole_step_length(&list, &dz, &dz, &z, &z, 9.0), Ok(least));
+    assert_eq!(list::whole_step_length(&[], &[], &[], &[], &[], 2.0), Ok((2.0, 2.0)));
+    assert_eq!(list::whole_step_length(&list, &dz, &dz, &z, &z[1..], 9.0), Err(Refusal::Length));
+}

@@ -1,0 +1,11 @@
+-- `akmuzrel::list::akm_list_affine_ds` meets its contract. Assumes nothing.
+use borrow.Author.Needs.{needs}
+use Rattle.codes.proofs.Laws.{exported}
+use Rattle.akmuzrel.proofs.list.akm_list_affine_ds.Statement.{statement}
+use Rattle.akmuzrel.proofs.list.akm_list_affine_ds.Tie as tie
+
+pub akm-list-affine-ds-spec : {M : Type 1} → statement M
+akm-list-affine-ds-spec =
+    tie.close (tie.spec
+    (λ c κs. search needs) (λ c κs. search needs) (λ c κs. search needs) (λ c. search needs)
+    (λ c. rw (← c .before .before .before .before .before .place-of .ensures) (search exported)))

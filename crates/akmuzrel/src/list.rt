@@ -1,0 +1,330 @@
+// The calls on one cone of a list for C: akm_list_ before the name, the row of records and the cone's index before the rest. A record is
+// three numbers, the cone's start, its kind (0 nonnegative, 1 second-order) and its dimension. Of our own; nothing is ported.
+use answers::Square;
+ghost use mathlib.Core.Path.{_≡_};
+ghost use mathlib.Core.List.{[], _∷_};
+ghost use Rattle.answers.specs.Outcome.{toldSquare};
+ghost use Rattle.conelist.specs.Layout.{PlaceOf};
+ghost use Rattle.conecalls.specs.Calls.{MarginsAt, ScaledUnitShiftAt, UnitInitializationAt, SetIdentityScalingAt, UpdateScalingAt, GetHsAt, SquareHsAt, MulHsAt, AffineDsAt, CombinedDsShiftAt, DsFromDzOffsetAt, StepLengthAt, MulWAt, MulWinvAt, CircOpAt, InvCircOpAt, LambdaInvCircOpAt, StandingAt};
+ghost use Rattle.conecalls.specs.List.{ListStepLength};
+ghost use Rattle.records.specs.Record.{Cones};
+ghost use Rattle.codes.specs.Code.{real, whole, export, Exported};
+
+#[no_mangle]
+pub extern "C" fn akm_list_margins(
+    list: &[[usize; 3]],
+    k: usize,
+    z: &[f64],
+    alpha: &mut f64,
+    beta: &mut f64,
+) -> u8
+    ensures { λ r. ⌜ export r (real (now (alpha .exit)) ∷ real (now (beta .exit)) ∷ []) []
+        ≡ Exported (real (now (alpha .entry)) ∷ real (now (beta .entry)) ∷ []) (MarginsAt (PlaceOf (Cones (now (list .entry))) k) (now (z .entry))) ⌝ }
+{
+    let p = records::place_of(list, k);
+    codes::margins(list_units::margins_at(p, z), alpha, beta)
+}
+
+#[no_mangle]
+pub extern "C" fn akm_list_scaled_unit_shift(
+    list: &[[usize; 3]],
+    k: usize,
+    z: &mut [f64],
+    alpha: f64,
+) -> u8
+    ensures { λ r. ⌜ export r [] (now (z .exit) ∷ [])
+        ≡ Exported [] (ScaledUnitShiftAt (PlaceOf (Cones (now (list .entry))) k) (now (z .entry)) alpha) ⌝ }
+{
+    let p = records::place_of(list, k);
+    codes::answer(list_units::scaled_unit_shift_at(p, z, alpha))
+}
+
+#[no_mangle]
+pub extern "C" fn akm_list_unit_initialization(
+    list: &[[usize; 3]],
+    k: usize,
+    z: &mut [f64],
+    s: &mut [f64],
+) -> u8
+    ensures { λ r. ⌜ export r [] (now (z .exit) ∷ now (s .exit) ∷ [])
+        ≡ Exported [] (UnitInitializationAt (PlaceOf (Cones (now (list .entry))) k) (now (z .entry)) (now (s .entry))) ⌝ }
+{
+    let p = records::place_of(list, k);
+    codes::answer(list_units::unit_initialization_at(p, z, s))
+}
+
+#[no_mangle]
+pub extern "C" fn akm_list_set_identity_scaling(
+    list: &[[usize; 3]],
+    k: usize,
+    w: &mut [f64],
+    u: &mut [f64],
+    v: &mut [f64],
+    eta: &mut [f64],
+    d: &mut [f64],
+) -> u8
+    ensures { λ r. ⌜ export r [] (now (w .exit) ∷ now (u .exit) ∷ now (v .exit) ∷ now (eta .exit) ∷ now (d .exit) ∷ [])
+        ≡ Exported [] (SetIdentityScalingAt (PlaceOf (Cones (now (list .entry))) k) (now (w .entry)) (now (u .entry)) (now (v .entry)) (now (eta .entry)) (now (d .entry))) ⌝ }
+{
+    let p = records::place_of(list, k);
+    codes::answer(list_identity::set_identity_scaling_at(p, w, u, v, eta, d))
+}
+
+#[no_mangle]
+pub extern "C" fn akm_list_update_scaling(
+    list: &[[usize; 3]],
+    k: usize,
+    s: &[f64],
+    z: &[f64],
+    w: &mut [f64],
+    lambda: &mut [f64],
+    u: &mut [f64],
+    v: &mut [f64],
+    eta: &mut [f64],
+    d: &mut [f64],
+    told: &mut u8,
+) -> u8
+    ensures { λ r. ⌜ export r (whole (now (told .exit)) ∷ []) (now (w .exit) ∷ now (lambda .exit) ∷ now (u .exit) ∷ now (v .exit) ∷ now (eta .exit) ∷ now (d .exit) ∷ [])
+        ≡ Exported (whole (now (told .entry)) ∷ []) (UpdateScalingAt (PlaceOf (Cones (now (list .entry))) k) (now (s .entry)) (now (z .entry)) (now (w .entry)) (now (lambda .entry)) (now (u .entry)) (now (v .entry)) (now (eta .entry)) (now (d .entry))) ⌝ }
+{
+    let p = records::place_of(list, k);
+    codes::scaling(
+        list_scaling::update_scaling_at(p, s, z, w, lambda, u, v, eta, d),
+        told,
+    )
+}
+
+#[no_mangle]
+pub extern "C" fn akm_list_get_hs(
+    list: &[[usize; 3]],
+    k: usize,
+    hs: &mut [f64],
+    w: &[f64],
+    eta: &[f64],
+    d: &[f64],
+) -> u8
+    ensures { λ r. ⌜ export r [] (now (hs .exit) ∷ [])
+        ≡ Exported [] (GetHsAt (PlaceOf (Cones (now (list .entry))) k) (now (hs .entry)) (now (w .entry)) (now (eta .entry)) (now (d .entry))) ⌝ }
+{
+    let p = records::place_of(list, k);
+    codes::answer(list_blocks::get_hs_at(p, hs, w, eta, d))
+}
+
+#[no_mangle]
+pub extern "C" fn akm_list_square_hs(
+    list: &[[usize; 3]],
+    k: usize,
+    w: &[f64],
+    eta: &[f64],
+) -> Square
+    ensures { λ r. ⌜ toldSquare r ≡ SquareHsAt (PlaceOf (Cones (now (list .entry))) k) (now (w .entry)) (now (eta .entry)) ⌝ }
+{
+    let p = records::place_of(list, k);
+    list_blocks::square_hs_at(p, w, eta)
+}
+
+#[no_mangle]
+pub extern "C" fn akm_list_mul_hs(
+    list: &[[usize; 3]],
+    k: usize,
+    y: &mut [f64],
+    x: &[f64],
+    w: &[f64],
+    eta: &[f64],
+) -> u8
+    ensures { λ r. ⌜ export r [] (now (y .exit) ∷ [])
+        ≡ Exported [] (MulHsAt (PlaceOf (Cones (now (list .entry))) k) (now (y .entry)) (now (x .entry)) (now (w .entry)) (now (eta .entry))) ⌝ }
+{
+    let p = records::place_of(list, k);
+    codes::answer(list_mul_hs::mul_hs_at(p, y, x, w, eta))
+}
+
+#[no_mangle]
+pub extern "C" fn akm_list_affine_ds(
+    list: &[[usize; 3]],
+    k: usize,
+    ds: &mut [f64],
+    lambda: &[f64],
+) -> u8
+    ensures { λ r. ⌜ export r [] (now (ds .exit) ∷ [])
+        ≡ Exported [] (AffineDsAt (PlaceOf (Cones (now (list .entry))) k) (now (ds .entry)) (now (lambda .entry))) ⌝ }
+{
+    let p = records::place_of(list, k);
+    codes::answer(list_jordan::affine_ds_at(p, ds, lambda))
+}
+
+#[no_mangle]
+pub extern "C" fn akm_list_combined_ds_shift(
+    list: &[[usize; 3]],
+    k: usize,
+    shift: &mut [f64],
+    step_z: &mut [f64],
+    step_s: &mut [f64],
+    sigma_mu: f64,
+    w: &[f64],
+    eta: &[f64],
+) -> u8
+    ensures { λ r. ⌜ export r [] (now (shift .exit) ∷ now («step_z» .exit) ∷ now («step_s» .exit) ∷ [])
+        ≡ Exported [] (CombinedDsShiftAt (PlaceOf (Cones (now (list .entry))) k) (now (shift .entry)) (now («step_z» .entry)) (now («step_s» .entry)) «sigma_mu» (now (w .entry)) (now (eta .entry))) ⌝ }
+{
+    let p = records::place_of(list, k);
+    codes::answer(list_combined::combined_ds_shift_at(p, shift, step_z, step_s, sigma_mu, w, eta))
+}
+
+#[no_mangle]
+pub extern "C" fn akm_list_ds_from_dz_offset(
+    list: &[[usize; 3]],
+    k: usize,
+    out: &mut [f64],
+    ds: &[f64],
+    z: &[f64],
+    w: &[f64],
+    lambda: &[f64],
+    eta: &[f64],
+) -> u8
+    ensures { λ r. ⌜ export r [] (now (out .exit) ∷ [])
+        ≡ Exported [] (DsFromDzOffsetAt (PlaceOf (Cones (now (list .entry))) k) (now (out .entry)) (now (ds .entry)) (now (z .entry)) (now (w .entry)) (now (lambda .entry)) (now (eta .entry))) ⌝ }
+{
+    let p = records::place_of(list, k);
+    codes::answer(list_offset::ds_from_dz_offset_at(p, out, ds, z, w, lambda, eta))
+}
+
+#[no_mangle]
+pub extern "C" fn akm_list_step_length(
+    list: &[[usize; 3]],
+    k: usize,
+    dz: &[f64],
+    ds: &[f64],
+    z: &[f64],
+    s: &[f64],
+    limit: f64,
+    step_z: &mut f64,
+    step_s: &mut f64,
+) -> u8
+    ensures { λ r. ⌜ export r (real (now («step_z» .exit)) ∷ real (now («step_s» .exit)) ∷ []) []
+        ≡ Exported (real (now («step_z» .entry)) ∷ real (now («step_s» .entry)) ∷ []) (StepLengthAt (PlaceOf (Cones (now (list .entry))) k) (now (dz .entry)) (now (ds .entry)) (now (z .entry)) (now (s .entry)) limit) ⌝ }
+{
+    let p = records::place_of(list, k);
+    codes::steps(
+        list_step::step_length_at(p, dz, ds, z, s, limit),
+        step_z,
+        step_s,
+    )
+}
+
+#[no_mangle]
+pub extern "C" fn akm_list_mul_w(
+    list: &[[usize; 3]],
+    k: usize,
+    y: &mut [f64],
+    x: &[f64],
+    alpha: f64,
+    beta: f64,
+    w: &[f64],
+    eta: &[f64],
+) -> u8
+    ensures { λ r. ⌜ export r [] (now (y .exit) ∷ [])
+        ≡ Exported [] (MulWAt (PlaceOf (Cones (now (list .entry))) k) (now (y .entry)) (now (x .entry)) alpha beta (now (w .entry)) (now (eta .entry))) ⌝ }
+{
+    let p = records::place_of(list, k);
+    codes::answer(list_products::mul_w_at(p, y, x, alpha, beta, w, eta))
+}
+
+#[no_mangle]
+pub extern "C" fn akm_list_mul_winv(
+    list: &[[usize; 3]],
+    k: usize,
+    y: &mut [f64],
+    x: &[f64],
+    alpha: f64,
+    beta: f64,
+    w: &[f64],
+    eta: &[f64],
+) -> u8
+    ensures { λ r. ⌜ export r [] (now (y .exit) ∷ [])
+        ≡ Exported [] (MulWinvAt (PlaceOf (Cones (now (list .entry))) k) (now (y .entry)) (now (x .entry)) alpha beta (now (w .entry)) (now (eta .entry))) ⌝ }
+{
+    let p = records::place_of(list, k);
+    codes::answer(list_products::mul_winv_at(p, y, x, alpha, beta, w, eta))
+}
+
+#[no_mangle]
+pub extern "C" fn akm_list_circ_op(
+    list: &[[usize; 3]],
+    k: usize,
+    x: &mut [f64],
+    y: &[f64],
+    z: &[f64],
+) -> u8
+    ensures { λ r. ⌜ export r [] (now (x .exit) ∷ [])
+        ≡ Exported [] (CircOpAt (PlaceOf (Cones (now (list .entry))) k) (now (x .entry)) (now (y .entry)) (now (z .entry))) ⌝ }
+{
+    let p = records::place_of(list, k);
+    codes::answer(list_jordan::circ_op_at(p, x, y, z))
+}
+
+#[no_mangle]
+pub extern "C" fn akm_list_inv_circ_op(
+    list: &[[usize; 3]],
+    k: usize,
+    x: &mut [f64],
+    y: &[f64],
+    z: &[f64],
+) -> u8
+    ensures { λ r. ⌜ export r [] (now (x .exit) ∷ [])
+        ≡ Exported [] (InvCircOpAt (PlaceOf (Cones (now (list .entry))) k) (now (x .entry)) (now (y .entry)) (now (z .entry))) ⌝ }
+{
+    let p = records::place_of(list, k);
+    codes::answer(list_jordan::inv_circ_op_at(p, x, y, z))
+}
+
+#[no_mangle]
+pub extern "C" fn akm_list_lambda_inv_circ_op(
+    list: &[[usize; 3]],
+    k: usize,
+    x: &mut [f64],
+    z: &[f64],
+    lambda: &[f64],
+) -> u8
+    ensures { λ r. ⌜ export r [] (now (x .exit) ∷ [])
+        ≡ Exported [] (LambdaInvCircOpAt (PlaceOf (Cones (now (list .entry))) k) (now (x .entry)) (now (z .entry)) (now (lambda .entry))) ⌝ }
+{
+    let p = records::place_of(list, k);
+    codes::answer(list_jordan::lambda_inv_circ_op_at(p, x, z, lambda))
+}
+
+#[no_mangle]
+pub extern "C" fn akm_list_standing(
+    list: &[[usize; 3]],
+    k: usize,
+    z: &[f64],
+    standing: &mut u8,
+) -> u8
+    ensures { λ r. ⌜ export r (whole (now (standing .exit)) ∷ []) []
+        ≡ Exported (whole (now (standing .entry)) ∷ []) (StandingAt (PlaceOf (Cones (now (list .entry))) k) (now (z .entry))) ⌝ }
+{
+    let p = records::place_of(list, k);
+    codes::stands(list_step::standing_at(p, z), standing)
+}
+
+// The step over the whole list, z side and s side.
+#[no_mangle]
+pub extern "C" fn akm_whole_step_length(
+    list: &[[usize; 3]],
+    dz: &[f64],
+    ds: &[f64],
+    z: &[f64],
+    s: &[f64],
+    limit: f64,
+    step_z: &mut f64,
+    step_s: &mut f64,
+) -> u8
+    ensures { λ r. ⌜ export r (real (now («step_z» .exit)) ∷ real (now («step_s» .exit)) ∷ []) []
+        ≡ Exported (real (now («step_z» .entry)) ∷ real (now («step_s» .entry)) ∷ []) (ListStepLength (Cones (now (list .entry))) (now (dz .entry)) (now (ds .entry)) (now (z .entry)) (now (s .entry)) limit) ⌝ }
+{
+    codes::steps(
+        records_step::list_step_length(list, dz, ds, z, s, limit),
+        step_z,
+        step_s,
+    )
+}

@@ -1,0 +1,63 @@
+// What bench/ calls of a cone of a list over its place, exported to C: mul_w and update_scaling. A place is eight numbers: the cone's index,
+// start, kind and dimension, where its block begins, and how many entries, cones and block numbers the list has. Of our own; nothing is ported.
+use conelist::Place;
+ghost use mathlib.Core.Path.{_≡_};
+ghost use mathlib.Core.List.{[], _∷_};
+ghost use Rattle.conecalls.specs.Calls.{MulWAt, UpdateScalingAt};
+ghost use Rattle.codes.specs.Code.{whole, export, Exported};
+ghost use Rattle.sweeps.specs.Numbers.{PlaceBy};
+
+fn place(n: [usize; 8]) -> Place
+    ensures { λ r. ⌜ r ≡ PlaceBy n ⌝ }
+{
+    Place {
+        no: 0,
+        index: n[0],
+        start: n[1],
+        kind: records::kind_of(n[2], n[3]),
+        block: n[4],
+        entries: n[5],
+        count: n[6],
+        blocks: n[7],
+    }
+}
+
+#[no_mangle]
+pub extern "C" fn measured_mul_w_at(
+    at: &[usize; 8],
+    y: &mut [f64],
+    x: &[f64],
+    alpha: f64,
+    beta: f64,
+    w: &[f64],
+    eta: &[f64],
+) -> u8
+    ensures { λ r. ⌜ export r [] (now (y .exit) ∷ [])
+        ≡ Exported [] (MulWAt (PlaceBy (now (at .entry))) (now (y .entry)) (now (x .entry)) alpha beta (now (w .entry)) (now (eta .entry))) ⌝ }
+{
+    let p = place(*at);
+    codes::answer(list_products::mul_w_at(p, y, x, alpha, beta, w, eta))
+}
+
+#[no_mangle]
+pub extern "C" fn measured_update_scaling_at(
+    at: &[usize; 8],
+    s: &[f64],
+    z: &[f64],
+    w: &mut [f64],
+    lambda: &mut [f64],
+    u: &mut [f64],
+    v: &mut [f64],
+    eta: &mut [f64],
+    d: &mut [f64],
+    told: &mut u8,
+) -> u8
+    ensures { λ r. ⌜ export r (whole (now (told .exit)) ∷ []) (now (w .exit) ∷ now (lambda .exit) ∷ now (u .exit) ∷ now (v .exit) ∷ now (eta .exit) ∷ now (d .exit) ∷ [])
+        ≡ Exported (whole (now (told .entry)) ∷ []) (UpdateScalingAt (PlaceBy (now (at .entry))) (now (s .entry)) (now (z .entry)) (now (w .entry)) (now (lambda .entry)) (now (u .entry)) (now (v .entry)) (now (eta .entry)) (now (d .entry))) ⌝ }
+{
+    let p = place(*at);
+    codes::scaling(
+        list_scaling::update_scaling_at(p, s, z, w, lambda, u, v, eta, d),
+        told,
+    )
+}
