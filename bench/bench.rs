@@ -222,6 +222,10 @@ mod rooted {
     include!("cones.rs");
 }
 
+// ---- a cone of a list, beside the cone by itself
+
+mod lists;
+
 // ---- the lines
 
 fn helpers(bench: &Bench, random: &mut Random) {
@@ -292,6 +296,7 @@ fn main() {
         rooted::soc(&bench, &mut Random(2));
         cones::nn(&bench, &mut Random(3));
         rooted::nn(&bench, &mut Random(3));
+        lists::lists(&bench, &mut Random(4));
     }
     println!(
         "{:33} {:>5} {:>12} {:>12} {:>8} {:>8} {:>8}",

@@ -7,7 +7,7 @@ ghost use Rattle.conelist.specs.Layout.{PlaceOf};
 ghost use Rattle.records.specs.Record.{KindOf, ConeOf, Cones};
 
 // Kind 0 is nonnegative, 1 second-order; any other is refused as a dimension out of its range is.
-fn kind_of(kind: usize, dimension: usize) -> Kind
+pub fn kind_of(kind: usize, dimension: usize) -> Kind
     ensures { λ r. ⌜ r ≡ KindOf kind dimension ⌝ }
 {
     if kind == 0 {
