@@ -1,14 +1,14 @@
 /* The cone kernels for C: every bare call of the second-order cone (akm_soc_..) and of the nonnegative
-   cone (akm_nn_..), and three operations on numbers. `rt staticlib akmuzrel` proves what stands here and
-   writes target/staticlib/libakmuzrel.a to link.
+   cone (akm_nn_..), every call on a list of cones (akm_list_..), and three operations on numbers.
+   `rt staticlib akmuzrel` proves what stands here and writes target/staticlib/libakmuzrel.a to link.
 
    A vector is a pointer and its length. A call takes any lengths and any numbers, NaN included. Its
    answer is the number of the first refusal that applies, AKM_DONE for none; a refused call has written
    nothing. The caller owes this: no pointer is null, also where its length is 0; each is aligned and
    has its length behind it; and what is not const overlaps nothing else that the call is lent.
 
-   The dimension n is the length of the first vector, but of w in the calls of a block and of identity
-   scaling; every other vector is as long, but for the block itself. */
+   In a bare call the dimension n is the length of the first vector, but of w in the calls of a block and
+   of identity scaling; every other vector is as long, but for the block itself. */
 #ifndef AKMUZREL_H
 #define AKMUZREL_H
 
@@ -19,13 +19,17 @@
 extern "C" {
 #endif
 
-/* Refusals, by rank: 1, 7, 5, 6. Numbers 2, 3 and 4 belong to a list of cones, which is not exported. */
+/* Refusals. Rank of a bare call: 1, 7, 5, 6. Of a call on a list: more than 256 cones (2); then record by
+   record 1, 3, the total (2); then 4, 7, 5, 6. */
 enum akm_refusal {
     AKM_DONE = 0,
-    AKM_BAD_DIMENSION = 1, /* second-order: below 2 or above 4,096; nonnegative: above 4,096 */
+    AKM_BAD_DIMENSION = 1, /* second-order: below 2 or above 4,096; nonnegative: above 4,096; no such kind */
+    AKM_BAD_SIZE = 2,      /* over 256 cones, or over 65,536 entries in all */
+    AKM_BAD_START = 3,     /* a cone does not start where the one before it ends, the first at 0 */
+    AKM_NO_CONE = 4,       /* the cone named is not in the list */
     AKM_BAD_LENGTH = 5,    /* a vector has the wrong length */
     AKM_BAD_LIMIT = 6,     /* a step's limit is NaN or below zero */
-    AKM_NOT_DENSE = 7      /* the square block is asked of a cone of more than 4 entries */
+    AKM_NOT_DENSE = 7      /* the square block is asked of a cone that is nonnegative or of over 4 entries */
 };
 
 /* Where a point stands towards its cone. */
@@ -136,6 +140,48 @@ uint8_t akm_nn_lambda_inv_circ_op(double *x, size_t x_len, const double *z, size
 uint8_t akm_nn_combined_ds_shift(double *shift, size_t shift_len, double *step_z, size_t step_z_len, double *step_s, size_t step_s_len, double sigma_mu, const double *w, size_t w_len);
 uint8_t akm_nn_step(const double *x, size_t x_len, const double *y, size_t y_len, double limit, double *step);
 uint8_t akm_nn_step_length(const double *dz, size_t dz_len, const double *ds, size_t ds_len, const double *z, size_t z_len, const double *s, size_t s_len, double limit, double *step_z, double *step_s);
+
+/* ---- a list of cones
+
+   A row of records, the first of which starts at 0, each next where the one before ends. A call names one
+   cone of it, by its index k, and reads and writes nothing but that cone's own range of each buffer. z, s,
+   w, lambda, u, v and the like are as long as all entries together, eta and d have one number for each
+   cone, and hs holds each cone's block behind the other: n numbers for a nonnegative cone or one of over 4
+   entries, else n(n+1)/2. A nonnegative cone uses no u, v, eta and d. What a call computes is said above. */
+
+enum akm_kind {
+    AKM_NONNEGATIVE = 0,
+    AKM_SECOND_ORDER = 1
+};
+
+struct akm_cone {
+    size_t start;
+    size_t kind; /* one of enum akm_kind */
+    size_t dimension;
+};
+
+uint8_t akm_list_margins(const struct akm_cone *list, size_t list_len, size_t k, const double *z, size_t z_len, double *alpha, double *beta);
+uint8_t akm_list_scaled_unit_shift(const struct akm_cone *list, size_t list_len, size_t k, double *z, size_t z_len, double alpha);
+uint8_t akm_list_unit_initialization(const struct akm_cone *list, size_t list_len, size_t k, double *z, size_t z_len, double *s, size_t s_len);
+uint8_t akm_list_set_identity_scaling(const struct akm_cone *list, size_t list_len, size_t k, double *w, size_t w_len, double *u, size_t u_len, double *v, size_t v_len, double *eta, size_t eta_len, double *d, size_t d_len);
+uint8_t akm_list_update_scaling(const struct akm_cone *list, size_t list_len, size_t k, const double *s, size_t s_len, const double *z, size_t z_len, double *w, size_t w_len, double *lambda, size_t lambda_len, double *u, size_t u_len, double *v, size_t v_len, double *eta, size_t eta_len, double *d, size_t d_len, uint8_t *told);
+uint8_t akm_list_get_hs(const struct akm_cone *list, size_t list_len, size_t k, double *hs, size_t hs_len, const double *w, size_t w_len, const double *eta, size_t eta_len, const double *d, size_t d_len);
+struct akm_square akm_list_square_hs(const struct akm_cone *list, size_t list_len, size_t k, const double *w, size_t w_len, const double *eta, size_t eta_len);
+uint8_t akm_list_mul_hs(const struct akm_cone *list, size_t list_len, size_t k, double *y, size_t y_len, const double *x, size_t x_len, const double *w, size_t w_len, const double *eta, size_t eta_len);
+uint8_t akm_list_affine_ds(const struct akm_cone *list, size_t list_len, size_t k, double *ds, size_t ds_len, const double *lambda, size_t lambda_len);
+uint8_t akm_list_combined_ds_shift(const struct akm_cone *list, size_t list_len, size_t k, double *shift, size_t shift_len, double *step_z, size_t step_z_len, double *step_s, size_t step_s_len, double sigma_mu, const double *w, size_t w_len, const double *eta, size_t eta_len);
+uint8_t akm_list_ds_from_dz_offset(const struct akm_cone *list, size_t list_len, size_t k, double *out, size_t out_len, const double *ds, size_t ds_len, const double *z, size_t z_len, const double *w, size_t w_len, const double *lambda, size_t lambda_len, const double *eta, size_t eta_len);
+uint8_t akm_list_step_length(const struct akm_cone *list, size_t list_len, size_t k, const double *dz, size_t dz_len, const double *ds, size_t ds_len, const double *z, size_t z_len, const double *s, size_t s_len, double limit, double *step_z, double *step_s);
+uint8_t akm_list_mul_w(const struct akm_cone *list, size_t list_len, size_t k, double *y, size_t y_len, const double *x, size_t x_len, double alpha, double beta, const double *w, size_t w_len, const double *eta, size_t eta_len);
+uint8_t akm_list_mul_winv(const struct akm_cone *list, size_t list_len, size_t k, double *y, size_t y_len, const double *x, size_t x_len, double alpha, double beta, const double *w, size_t w_len, const double *eta, size_t eta_len);
+uint8_t akm_list_circ_op(const struct akm_cone *list, size_t list_len, size_t k, double *x, size_t x_len, const double *y, size_t y_len, const double *z, size_t z_len);
+uint8_t akm_list_inv_circ_op(const struct akm_cone *list, size_t list_len, size_t k, double *x, size_t x_len, const double *y, size_t y_len, const double *z, size_t z_len);
+uint8_t akm_list_lambda_inv_circ_op(const struct akm_cone *list, size_t list_len, size_t k, double *x, size_t x_len, const double *z, size_t z_len, const double *lambda, size_t lambda_len);
+uint8_t akm_list_standing(const struct akm_cone *list, size_t list_len, size_t k, const double *z, size_t z_len, uint8_t *standing);
+
+/* the whole list's step: each cone's at the caller's limit, and of each side the least; the limit twice for
+   a list of no cones */
+uint8_t akm_whole_step_length(const struct akm_cone *list, size_t list_len, const double *dz, size_t dz_len, const double *ds, size_t ds_len, const double *z, size_t z_len, const double *s, size_t s_len, double limit, double *step_z, double *step_s);
 
 #ifdef __cplusplus
 }

@@ -1,5 +1,6 @@
-// The library for C: every bare call of both cones (crates export_soc and export_nn), and the three operations on numbers. include/akmuzrel.h
-// declares them. Of our own; nothing is ported.
+// The library for C: every bare call of both cones (soc.rt, nn.rt), every call on a list of cones (list.rt), and the three operations on
+// numbers. include/akmuzrel.h declares them. Of our own; nothing is ported.
+mod list;
 mod nn;
 mod soc;
 

@@ -20,7 +20,7 @@ fn kind_circ(kind: Kind, x: &mut [f64], y: &[f64], z: &[f64])
     ensures { λ _. ⌜ now (x .exit) ≡ KindCirc kind (now (y .entry)) (now (z .entry)) ⌝ }
 {
     match kind {
-        Kind::Nonnegative(n) => nn_products::circ_op(x, y, z),
+        Kind::Nonnegative(n) => nn_jordan::circ_op(x, y, z),
         Kind::SecondOrder(n) => soc_jordan::circ_op(x, y, z),
     }
 }
@@ -56,7 +56,7 @@ fn kind_inv_circ(kind: Kind, x: &mut [f64], y: &[f64], z: &[f64])
     ensures { λ _. ⌜ now (x .exit) ≡ KindInvCirc kind (now (y .entry)) (now (z .entry)) ⌝ }
 {
     match kind {
-        Kind::Nonnegative(n) => nn_products::inv_circ_op(x, y, z),
+        Kind::Nonnegative(n) => nn_jordan::inv_circ_op(x, y, z),
         Kind::SecondOrder(n) => soc_jordan::inv_circ_op(x, y, z),
     }
 }
@@ -106,7 +106,7 @@ fn kind_affine_ds(kind: Kind, ds: &mut [f64], lambda: &[f64])
     ensures { λ _. ⌜ now (ds .exit) ≡ KindAffineDs kind (now (lambda .entry)) ⌝ }
 {
     match kind {
-        Kind::Nonnegative(n) => nn_products::affine_ds(ds, lambda),
+        Kind::Nonnegative(n) => nn_jordan::affine_ds(ds, lambda),
         Kind::SecondOrder(n) => soc_jordan::circ_op(ds, lambda, lambda),
     }
 }
