@@ -2,7 +2,6 @@
 -- and that the buffers keep their lengths. Assumes nothing.
 use Prim.Native.Nat.{ℕ, _+_, _-_, _*_, _^_, _≤_, _<_}
 use native.Mathlib.Omega.{arith}
-use native.Mathlib.Nat.{add-sub-cancel-left}
 use mathlib.Core.Path.{_≡_, sym, _∙_}
 use mathlib.Core.List.{List, [], _∷_, _++_, map}
 use lib.ListN.{length, take, drop, length-append, length-take, length-drop, length-set}
@@ -16,20 +15,21 @@ use Rattle.conelist.specs.Layout.{Dim, LeastDim, Ready, Fits}
 pub from-start : (at n : ℕ) → at ≤ at + n
 from-start at n = omega arith
 
--- ---- a buffer y of a number per entry, which takes fewer than 2 ^ 63 bytes; n is what `dim` gave
+-- ---- a buffer y of a number per entry, which takes fewer than 2 ^ 63 bytes
 
-module _ (p : Place) (n : ℕ) (y : List Float) (here : Ready p) (same : length y ≡ p .entries) where
+module _ (p : Place) (y : List Float) (here : Ready p) (same : length y ≡ p .entries) where
   pub start-fits : length y * 8 < 2 ^ 63 → Word w64 (p .start * 8)
   start-fits room = record { fits = omega arith }
 
-  module _ (long : n ≡ Dim (p .kind)) where
+  -- n is what `dim` gave
+  module _ (n : ℕ) (long : n ≡ Dim (p .kind)) where
     pub end-fits : length y * 8 < 2 ^ 63 → Word w64 (p .start + n)
     end-fits room = record { fits = omega arith }
 
     pub to-end : p .start + n ≤ length y
     to-end = omega arith
 
-    pub cut-long : length (take (p .start + n - p .start) (drop (p .start) y)) ≡ Dim (p .kind)
+    cut-long : length (take (p .start + n - p .start) (drop (p .start) y)) ≡ Dim (p .kind)
     cut-long = simp (length-take, length-drop) (omega arith)
 
     -- the range came back as `part`
@@ -54,11 +54,12 @@ module _ (p : Place) (n : ℕ) (here : Ready p) (long : n ≡ Dim (p .kind)) whe
 
   cuts-same : {m : ℕ} → m ≡ Dim (p .kind) → (ys : List (List Float)) → Fits (map (λ y. (length y, p .entries)) ys) → Same m (map (λ y. length (Cut y)) ys)
   cuts-same e [] fits = tt
-  cuts-same e (y ∷ ys) fits = (cut-long p n y here (fits .0) long ∙ sym e, cuts-same e ys (fits .1))
+  cuts-same e (y ∷ ys) fits = (cut-long p y here (fits .0) n long ∙ sym e, cuts-same e ys (fits .1))
 
   pub cuts-fit : (y : List Float) (ys : List (List Float)) → length y ≡ p .entries → Fits (map (λ y. (length y, p .entries)) ys) → Fit (LeastDim (p .kind)) (length (Cut y)) (map (λ y. length (Cut y)) ys)
   cuts-fit y ys same fits =
-      let e = cut-long p n y here same long in
+      let e = cut-long p y here same n long in
       record { enough = rw e (here .enough); most = rw e (here .most); same = cuts-same e ys fits }
 
+-- what the needs of such a call are searched with
 pub ruleset ranges = (from-start, start-fits, end-fits, to-end, kept-long, index-within, index-fits, length-set)
