@@ -1181,10 +1181,21 @@ fn shrink(call: &Call, mut l: Lent, fails: &mut dyn FnMut(&Lent) -> bool) -> Len
     }
 }
 
-// Numbers become 0, 1 or -1.
+// Numbers become 0, 1 or -1, a whole vector at once and then, if they are not too many, one by one.
 pub fn plainer(l: &mut Lent, fails: &mut dyn FnMut(&Lent) -> bool) -> bool {
     let mut smaller = false;
+    for k in 0..l.v.len() {
+        let mut other = l.clone();
+        other.v[k].fill(0.0);
+        if l.v[k].iter().any(|x| !bits(*x, 0.0)) && fails(&other) {
+            *l = other;
+            smaller = true;
+        }
+    }
     let (vectors, numbers) = (l.v.iter().map(Vec::len).sum::<usize>(), l.a.len());
+    if vectors > 10_000 {
+        return smaller;
+    }
     for k in 0..vectors + numbers + l.o.len() {
         for value in [0.0, 1.0, -1.0] {
             let mut other = l.clone();
