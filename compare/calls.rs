@@ -5,9 +5,11 @@
 // document 01's table, read here in Rust; so are the standing, the square block, and the least and
 // greatest, which the crate does not have.
 //
-// First each call is spoiled on purpose, in four ways, and must be reported; the call that SPOIL names
-// has its last bit turned throughout, which shows what a difference looks like. The first difference of
-// a call is printed with the smallest input found; the last line is 'N passed, M failed'.
+// First each call is spoiled on purpose, in up to five ways, and must be reported; the call that SPOIL
+// names has its last bit turned throughout, which shows what a difference looks like. The first
+// difference of a call is printed with the smallest input found; the last line is 'N passed, M failed'.
+//
+// compare/lists.rs takes this file in as a module.
 #![allow(
     irrefutable_let_patterns,
     confusable_idents,
@@ -15,13 +17,14 @@
     uncommon_codepoints
 )]
 
-mod random;
+pub mod random;
 
 use clarabel::algebra::MatrixShape;
 use clarabel::cones::*;
 use random::Random;
+use std::ops::Range;
 
-type P = *mut f64;
+pub type P = *mut f64;
 type Soc = SecondOrderCone<f64>;
 type Nn = NonnegativeCone<f64>;
 
@@ -32,47 +35,48 @@ const SETTINGS: CoreSettings<f64> = CoreSettings(std::marker::PhantomData);
 // struct akm_square
 #[repr(C)]
 #[derive(Clone, Copy)]
-struct Square {
-    no: u8,
-    rows: [[f64; 4]; 4],
+pub struct Square {
+    pub no: u8,
+    pub rows: [[f64; 4]; 4],
 }
 
 // Vectors, numbers, single lent numbers, one lent byte, and the square that one call returns.
 #[derive(Clone)]
-struct Lent {
-    v: Vec<Vec<f64>>,
-    a: Vec<f64>,
-    o: Vec<f64>,
-    t: u8,
-    rows: [[f64; 4]; 4],
+pub struct Lent {
+    pub v: Vec<Vec<f64>>,
+    pub a: Vec<f64>,
+    pub o: Vec<f64>,
+    pub t: u8,
+    pub rows: [[f64; 4]; 4],
 }
 
 // The same in memory, for C.
-struct Places {
-    v: Vec<(P, usize)>,
-    a: Vec<f64>,
-    o: Vec<P>,
-    t: *mut u8,
-    rows: [[f64; 4]; 4],
+pub struct Places {
+    pub v: Vec<(P, usize)>,
+    pub a: Vec<f64>,
+    pub o: Vec<P>,
+    pub t: *mut u8,
+    pub rows: [[f64; 4]; 4],
 }
 
 // What a call of the files leaves as it was, beyond its const arguments.
 #[derive(Clone, Copy, PartialEq)]
-enum Kept {
+pub enum Kept {
     Nothing,
     AllButWAndEta,
     All,
 }
 
-enum Rust {
+pub enum Rust {
     Soc(fn(&mut Soc, &mut Lent) -> Kept),
     Nn(fn(&mut Nn, &mut Lent)),
     Number(fn(&mut Lent)),
 }
 
 // A name with ! is written, one with ~ too and its zeros count by value.
-struct Name {
-    name: &'static str,
+#[derive(Clone, Copy)]
+pub struct Name {
+    pub name: &'static str,
     written: bool,
     loose: bool,
 }
@@ -88,15 +92,15 @@ fn names(words: &'static str) -> Vec<Name> {
         .collect()
 }
 
-fn find(names: &[Name], name: &str) -> Option<usize> {
+pub fn find(names: &[Name], name: &str) -> Option<usize> {
     names.iter().position(|x| x.name == name)
 }
 
-struct Call {
-    name: &'static str,
-    v: Vec<Name>,
-    a: Vec<Name>,
-    o: Vec<Name>,
+pub struct Call {
+    pub name: &'static str,
+    pub v: Vec<Name>,
+    pub a: Vec<Name>,
+    pub o: Vec<Name>,
     told: bool,
     native: fn(&mut Places) -> u8,
     rust: Rust,
@@ -113,7 +117,7 @@ impl Call {
         }
     }
 
-    fn length(&self, k: usize, n: usize) -> usize {
+    pub fn length(&self, k: usize, n: usize) -> usize {
         match (self.v[k].name, &self.rust) {
             ("hs", Rust::Soc(_)) if n <= 4 => n * (n + 1) / 2,
             _ => n,
@@ -135,6 +139,10 @@ impl Call {
         if (0..l.v.len()).any(|k| l.v[k].len() != self.length(k, n)) {
             return 5;
         }
+        self.limit_refusal(l)
+    }
+
+    pub fn limit_refusal(&self, l: &Lent) -> u8 {
         match find(&self.a, "limit") {
             Some(k) if l.a[k].is_nan() || l.a[k] < 0.0 => 6,
             _ => 0,
@@ -196,6 +204,76 @@ impl Call {
                 self.exchange(&mut cone, l);
                 kept
             }
+        }
+    }
+
+    pub fn due(&self, l: &Lent) -> Due {
+        let mut due = Due::kept(self.refusal(l), self.name, l);
+        if due.no > 0 {
+            return due;
+        }
+        let kept = self.files(&mut due.lent);
+        let n = l.v.get(self.dimension()).map_or(0, |x| x.len());
+        let dense = matches!(self.rust, Rust::Soc(_)) && n <= 4;
+        let equal = |name: &Name| match name {
+            Name { written: false, .. } => Equal::Bits,
+            _ if kept == Kept::All => Equal::Bits,
+            _ if kept == Kept::AllButWAndEta && !["w", "eta"].contains(&name.name) => Equal::Bits,
+            _ if dense && ["u", "v", "d"].contains(&name.name) => Equal::Bits,
+            Name { loose: true, .. } => Equal::Value,
+            _ => Equal::Number,
+        };
+        for (k, name) in self.v.iter().enumerate() {
+            if equal(name) != Equal::Bits {
+                due.v[k] = 0..l.v[k].len();
+            }
+        }
+        due.o = self.o.iter().map(equal).collect();
+        due.told = self.told;
+        due
+    }
+}
+
+// How two numbers are compared: bit for bit; all NaNs as one; and zeros by value.
+#[derive(Clone, Copy, PartialEq)]
+pub enum Equal {
+    Bits,
+    Number,
+    Value,
+}
+
+impl Equal {
+    fn holds(self, x: f64, y: f64) -> bool {
+        bits(x, y)
+            || self != Equal::Bits && x.is_nan() && y.is_nan()
+            || self == Equal::Value && x == y
+    }
+}
+
+// What must come of a call: the refusal's number and what all is afterwards. Of each vector the run that
+// was written, where all NaNs count as one, of each lent number how it is compared; whether the lent
+// byte was written, and whether there is a square.
+pub struct Due {
+    pub no: u8,
+    pub lent: Lent,
+    pub v: Vec<Range<usize>>,
+    pub o: Vec<Equal>,
+    pub told: bool,
+    square: bool,
+}
+
+impl Due {
+    // Nothing is written, and the square is of +0.
+    pub fn kept(no: u8, name: &str, l: &Lent) -> Due {
+        let mut lent = l.clone();
+        lent.rows = [[0.0; 4]; 4];
+        Due {
+            no,
+            lent,
+            v: vec![0..0; l.v.len()],
+            o: vec![Equal::Bits; l.o.len()],
+            told: false,
+            square: name.ends_with("square_hs"),
         }
     }
 }
@@ -353,7 +431,7 @@ fn number(name: &'static str, native: fn(&mut Places) -> u8, rust: fn(&mut Lent)
 }
 
 // Document 01, "Numbers": the least of a and b, and the greatest with the test turned.
-fn chosen(a: f64, b: f64, second: bool) -> f64 {
+pub fn chosen(a: f64, b: f64, second: bool) -> f64 {
     if a.is_nan() || !b.is_nan() && second {
         b
     } else {
@@ -366,7 +444,7 @@ fn put(o: P, x: f64) -> u8 {
     0
 }
 
-fn all() -> Vec<Call> {
+pub fn all() -> Vec<Call> {
     use MatrixShape::N;
     use PrimalOrDualCone::PrimalCone;
     let mut all = calls![
@@ -451,13 +529,14 @@ fn all() -> Vec<Call> {
 // ---- both sides of a call, and their differences
 
 // How a result is spoiled on purpose: a last bit of what was written, a number behind the end of a
-// buffer, a buffer of a call that wrote nothing to it, and the refusal's number.
+// buffer, a number that was not to be written, the same of a refused call, and the refusal's number.
 #[derive(Clone, Copy, Debug, PartialEq)]
-enum Spoil {
+pub enum Spoil {
     Nothing,
     Bit,
     Guard,
     Unwritten,
+    Refused,
     Number,
 }
 
@@ -465,14 +544,20 @@ const GUARD: u64 = 0x7ff4_dead_beef_0000;
 const GUARDS: usize = 2;
 const BESIDE: [u8; 3] = [0xa5, 0, 0x5a];
 
-struct Found {
+pub struct Found {
     no: u8,
     lent: Lent,
     guards: bool,
 }
 
 // The export, over one piece of memory with guards before, between and behind all buffers.
-fn export(call: &Call, l: &Lent, memory: &mut Vec<f64>, spoil: Spoil) -> Found {
+pub fn lend(
+    l: &Lent,
+    memory: &mut Vec<f64>,
+    native: impl FnOnce(&mut Places) -> u8,
+    due: &Due,
+    spoil: Spoil,
+) -> Found {
     memory.clear();
     let guards = [f64::from_bits(GUARD); GUARDS];
     memory.extend(guards);
@@ -516,39 +601,9 @@ fn export(call: &Call, l: &Lent, memory: &mut Vec<f64>, spoil: Spoil) -> Found {
         t: unsafe { t.as_mut_ptr().add(1) },
         rows: l.rows,
     };
-    let mut no = (call.native)(&mut places);
-    let Places { v, mut rows, .. } = places;
-
-    match spoil {
-        Spoil::Nothing => {}
-        Spoil::Number => no ^= 1,
-        Spoil::Guard => {
-            if let Some((p, n)) = v.last().filter(|(p, _)| !p.is_null()) {
-                unsafe { *p.add(*n) = 0.0 };
-            }
-        }
-        Spoil::Bit if no == 0 => {
-            let numbers = std::iter::zip(&call.v, &v)
-                .filter(|(name, _)| name.written)
-                .map(|(_, (p, n))| (*p, *n));
-            let ones = std::iter::zip(&call.o, &places.o)
-                .filter(|(name, _)| name.written)
-                .map(|(_, p)| (*p, 1));
-            match numbers.chain(ones).find(|(_, n)| *n > 0) {
-                Some((p, _)) => unsafe { *p = f64::from_bits((*p).to_bits() ^ 1) },
-                None if call.told => t[1] ^= 1,
-                None => rows[0][0] = f64::from_bits(rows[0][0].to_bits() ^ 1),
-            }
-        }
-        Spoil::Unwritten => {
-            let first = std::iter::zip(&call.v, &v)
-                .find(|(name, (_, n))| (no > 0 || !name.written) && *n > 0);
-            if let Some((_, (p, _))) = first {
-                unsafe { **p = f64::from_bits((**p).to_bits() ^ 1) };
-            }
-        }
-        Spoil::Bit => {}
-    }
+    let mut no = native(&mut places);
+    spoiled(&mut no, &mut places, due, spoil);
+    let rows = places.rows;
 
     let mut at = 0;
     let mut guards = t[0] == BESIDE[0] && t[2] == BESIDE[2];
@@ -575,8 +630,41 @@ fn export(call: &Call, l: &Lent, memory: &mut Vec<f64>, spoil: Spoil) -> Found {
     }
 }
 
-fn same(x: f64, y: f64) -> bool {
-    x.to_bits() == y.to_bits() || x.is_nan() && y.is_nan()
+fn spoiled(no: &mut u8, l: &mut Places, due: &Due, spoil: Spoil) {
+    let turn = |p: P| unsafe { *p = f64::from_bits((*p).to_bits() ^ 1) };
+    match spoil {
+        Spoil::Nothing => {}
+        Spoil::Number => *no ^= 1,
+        Spoil::Guard => {
+            if let Some((p, n)) = l.v.last().filter(|(p, _)| !p.is_null()) {
+                unsafe { *p.add(*n) = 0.0 };
+            }
+        }
+        Spoil::Bit => {
+            let run = (0..l.v.len()).find(|k| !due.v[*k].is_empty());
+            let one = (0..l.o.len()).find(|k| due.o[*k] != Equal::Bits);
+            match (run, one) {
+                (Some(k), _) => turn(l.v[k].0.wrapping_add(due.v[k].start)),
+                (_, Some(k)) => turn(l.o[k]),
+                _ if due.told => unsafe { *l.t ^= 1 },
+                _ => turn(&mut l.rows[0][0]),
+            }
+        }
+        // beside a run that was written, if there is such a number
+        Spoil::Unwritten | Spoil::Refused if (due.no > 0) == (spoil == Spoil::Refused) => {
+            let mut order: Vec<usize> = (0..l.v.len()).collect();
+            order.sort_by_key(|k| due.v[*k].is_empty());
+            for k in order {
+                let ((p, n), run) = (l.v[k], &due.v[k]);
+                if run.end < n || run.start > 0 {
+                    let at = if run.end < n { run.end } else { run.start - 1 };
+                    turn(p.wrapping_add(at));
+                    return;
+                }
+            }
+        }
+        Spoil::Unwritten | Spoil::Refused => {}
+    }
 }
 
 fn bits(x: f64, y: f64) -> bool {
@@ -585,31 +673,13 @@ fn bits(x: f64, y: f64) -> bool {
 
 // What a comparison came to: the refusal that is due, whether all that was written is a number, and
 // the first difference if there is one.
-struct Verdict {
-    due: u8,
-    numbers: bool,
-    first: Option<String>,
+pub struct Verdict {
+    pub due: u8,
+    pub numbers: bool,
+    pub first: Option<String>,
 }
 
-fn difference(call: &Call, l: &Lent, memory: &mut Vec<f64>, spoil: Spoil) -> Verdict {
-    let due = call.refusal(l);
-    let found = export(call, l, memory, spoil);
-    let mut told = l.clone();
-    told.rows = [[0.0; 4]; 4];
-    let kept = if due > 0 {
-        Kept::All
-    } else {
-        call.files(&mut told)
-    };
-    let n = l.v.get(call.dimension()).map_or(0, |x| x.len());
-    let dense = matches!(call.rust, Rust::Soc(_)) && n <= 4;
-    // what keeps its bits
-    let still = |name: &Name| {
-        !name.written
-            || kept == Kept::All
-            || kept == Kept::AllButWAndEta && !["w", "eta"].contains(&name.name)
-            || dense && ["u", "v", "d"].contains(&name.name)
-    };
+pub fn compare(v: &[Name], o: &[Name], due: &Due, found: &Found) -> Verdict {
     let told_of = |what: String, x: f64, y: f64| {
         format!(
             "{what}: {x:?} ({:#018x}), and it should be {y:?} ({:#018x})",
@@ -617,29 +687,28 @@ fn difference(call: &Call, l: &Lent, memory: &mut Vec<f64>, spoil: Spoil) -> Ver
             y.to_bits()
         )
     };
+    let told = &due.lent;
     let first = || {
-        if found.no != due {
-            return Some(format!("refusal {}, and it should be {due}", found.no));
+        if found.no != due.no {
+            return Some(format!("refusal {}, and it should be {}", found.no, due.no));
         }
         if !found.guards {
             return Some("written beyond the end of a buffer".to_string());
         }
-        for (k, name) in call.v.iter().enumerate() {
-            let equal = if still(name) { bits } else { same };
+        for (k, name) in v.iter().enumerate() {
             for (i, (x, y)) in std::iter::zip(&found.lent.v[k], &told.v[k]).enumerate() {
-                if !equal(*x, *y) {
+                let equal = match due.v[k].contains(&i) {
+                    true => Equal::Number,
+                    false => Equal::Bits,
+                };
+                if !equal.holds(*x, *y) {
                     return Some(told_of(format!("{}[{i}]", name.name), *x, *y));
                 }
             }
         }
-        for (k, name) in call.o.iter().enumerate() {
+        for (k, name) in o.iter().enumerate() {
             let (x, y) = (found.lent.o[k], told.o[k]);
-            let equal = if still(name) {
-                bits(x, y)
-            } else {
-                same(x, y) || name.loose && x == y
-            };
-            if !equal {
+            if !due.o[k].holds(x, y) {
                 return Some(told_of(name.name.to_string(), x, y));
             }
         }
@@ -649,24 +718,22 @@ fn difference(call: &Call, l: &Lent, memory: &mut Vec<f64>, spoil: Spoil) -> Ver
                 found.lent.t, told.t
             ));
         }
-        if call.name == "akm_soc_square_hs" {
-            for k in 0..16 {
-                let (row, col) = (k / 4, k % 4);
-                let (x, y) = (found.lent.rows[row][col], told.rows[row][col]);
-                if !same(x, y) {
-                    return Some(told_of(format!("row {row}, column {col}"), x, y));
-                }
+        for (row, col) in (0..16).map(|k| (k / 4, k % 4)).filter(|_| due.square) {
+            let (x, y) = (found.lent.rows[row][col], told.rows[row][col]);
+            if !Equal::Number.holds(x, y) {
+                return Some(told_of(format!("row {row}, column {col}"), x, y));
             }
         }
         None
     };
-    let written = |names: &[Name], k: usize| names[k].written;
-    let numbers = (0..l.v.len())
-        .all(|k| !written(&call.v, k) || told.v[k].iter().all(|x| !x.is_nan()))
-        && (0..l.o.len()).all(|k| !written(&call.o, k) || !told.o[k].is_nan())
-        && told.rows.iter().flatten().all(|x| !x.is_nan());
+    let runs = std::iter::zip(&told.v, &due.v).flat_map(|(x, run)| &x[run.clone()]);
+    let ones = std::iter::zip(&told.o, &due.o).filter(|(_, equal)| **equal != Equal::Bits);
+    let numbers = runs
+        .chain(ones.map(|(x, _)| x))
+        .chain(told.rows.iter().flatten())
+        .all(|x| !x.is_nan());
     Verdict {
-        due,
+        due: due.no,
         numbers,
         first: first(),
     }
@@ -757,7 +824,7 @@ const EXACT: [&[f64]; 9] = [
 
 // which numbers a vector is made of
 #[derive(Clone, Copy)]
-enum Taste {
+pub enum Taste {
     Unit,
     Whole,
     Special,
@@ -782,11 +849,11 @@ const TASTES: [Taste; 9] = [
 ];
 
 impl Random {
-    fn below(&mut self, n: usize) -> usize {
+    pub fn below(&mut self, n: usize) -> usize {
         (self.bits() >> 32) as usize * n >> 32
     }
 
-    fn one_in(&mut self, n: usize) -> bool {
+    pub fn one_in(&mut self, n: usize) -> bool {
         self.below(n) == 0
     }
 
@@ -799,7 +866,7 @@ impl Random {
         f64::powi(2.0, least + self.below((most - least + 1) as usize) as i32)
     }
 
-    fn number(&mut self, taste: Taste) -> f64 {
+    pub fn number(&mut self, taste: Taste) -> f64 {
         match taste {
             Taste::Unit => self.unit(),
             Taste::Whole => self.below(9) as f64 - 4.0,
@@ -930,7 +997,7 @@ impl Random {
         }
     }
 
-    fn dimension(&mut self) -> usize {
+    pub fn dimension(&mut self) -> usize {
         match self.below(4096) {
             0 => 4095 + self.below(3),
             1..=120 => 62 + self.below(5),
@@ -939,11 +1006,20 @@ impl Random {
     }
 
     fn lent(&mut self, call: &Call) -> Lent {
+        let n = self.dimension();
+        let mut l = self.fitting(call, n);
+        if self.one_in(6) {
+            self.damage(&mut l, n);
+        }
+        l
+    }
+
+    // all lengths by the dimension
+    pub fn fitting(&mut self, call: &Call, n: usize) -> Lent {
         let soc = matches!(call.rust, Rust::Soc(_));
         // half of them with points inside the cone, of numbers that can stay there
         let inner = self.one_in(2);
         let taste = TASTES[self.below(if inner { 3 } else { TASTES.len() })];
-        let n = self.dimension();
         let mut l = Lent {
             v: vec![],
             a: call
@@ -980,9 +1056,6 @@ impl Random {
         }
         if self.below(3) > 0 {
             self.state(call, &mut l, n, taste);
-        }
-        if self.one_in(6) {
-            self.damage(&mut l, n, taste);
         }
         if self.one_in(10) {
             self.strew(&mut l);
@@ -1029,7 +1102,7 @@ impl Random {
     }
 
     // lengths that may be wrong
-    fn damage(&mut self, l: &mut Lent, n: usize, taste: Taste) {
+    fn damage(&mut self, l: &mut Lent, n: usize) {
         for _ in 0..1 + self.below(2) {
             if l.v.is_empty() {
                 return;
@@ -1048,7 +1121,7 @@ impl Random {
             ];
             let kinds = if self.one_in(50) { 8 } else { 7 };
             let length = lengths[self.below(kinds)];
-            let more = self.number(taste);
+            let more = self.number(Taste::Mixed);
             l.v[k].resize(length, more);
         }
     }
@@ -1070,8 +1143,7 @@ fn norm(x: &[f64]) -> f64 {
 // ---- the smallest input found
 
 // Entries are dropped from every vector, many at once and then one by one; numbers become 0, 1 or -1.
-fn shrink(call: &Call, mut l: Lent, memory: &mut Vec<f64>, spoil: Spoil) -> Lent {
-    let mut fails = |l: &Lent| difference(call, l, memory, spoil).first.is_some();
+fn shrink(call: &Call, mut l: Lent, fails: &mut dyn FnMut(&Lent) -> bool) -> Lent {
     loop {
         let mut smaller = false;
         let most = l.v.iter().map(Vec::len).max().unwrap_or(0);
@@ -1103,39 +1175,55 @@ fn shrink(call: &Call, mut l: Lent, memory: &mut Vec<f64>, spoil: Spoil) -> Lent
             }
             cut /= 2;
         }
-        let (vectors, numbers) = (l.v.iter().map(Vec::len).sum::<usize>(), l.a.len());
-        for k in 0..vectors + numbers + l.o.len() {
-            for value in [0.0, 1.0, -1.0] {
-                let mut other = l.clone();
-                let x = other
-                    .v
-                    .iter_mut()
-                    .flatten()
-                    .chain(&mut other.a)
-                    .chain(&mut other.o)
-                    .nth(k)
-                    .unwrap();
-                if bits(*x, value) {
-                    break;
-                }
-                *x = value;
-                if fails(&other) {
-                    l = other;
-                    smaller = true;
-                    break;
-                }
-            }
-        }
-        if !smaller {
+        if !plainer(&mut l, fails) && !smaller {
             return l;
         }
     }
 }
 
-fn print(call: &Call, l: &Lent, found: &str) {
-    println!("{}: {found}", call.name);
+// Numbers become 0, 1 or -1, a whole vector at once and then, if they are not too many, one by one.
+pub fn plainer(l: &mut Lent, fails: &mut dyn FnMut(&Lent) -> bool) -> bool {
+    let mut smaller = false;
+    for k in 0..l.v.len() {
+        let mut other = l.clone();
+        other.v[k].fill(0.0);
+        if l.v[k].iter().any(|x| !bits(*x, 0.0)) && fails(&other) {
+            *l = other;
+            smaller = true;
+        }
+    }
+    let (vectors, numbers) = (l.v.iter().map(Vec::len).sum::<usize>(), l.a.len());
+    if vectors > 10_000 {
+        return smaller;
+    }
+    for k in 0..vectors + numbers + l.o.len() {
+        for value in [0.0, 1.0, -1.0] {
+            let mut other = l.clone();
+            let x = other
+                .v
+                .iter_mut()
+                .flatten()
+                .chain(&mut other.a)
+                .chain(&mut other.o)
+                .nth(k)
+                .unwrap();
+            if bits(*x, value) {
+                break;
+            }
+            *x = value;
+            if fails(&other) {
+                *l = other;
+                smaller = true;
+                break;
+            }
+        }
+    }
+    smaller
+}
+
+pub fn print(v: &[Name], a: &[Name], o: &[Name], l: &Lent) {
     let show = |x: &f64| format!("{x:?} ({:#018x})", x.to_bits());
-    for (name, x) in std::iter::zip(&call.v, &l.v) {
+    for (name, x) in std::iter::zip(v, &l.v) {
         let shown: Vec<_> = x.iter().take(16).map(show).collect();
         let more = if x.len() > 16 { ", .." } else { "" };
         println!(
@@ -1145,43 +1233,100 @@ fn print(call: &Call, l: &Lent, found: &str) {
             shown.join(", ")
         );
     }
-    for (name, x) in std::iter::zip(&call.a, &l.a).chain(std::iter::zip(&call.o, &l.o)) {
+    for (name, x) in std::iter::zip(a, &l.a).chain(std::iter::zip(o, &l.o)) {
         println!("    {} = {}", name.name, show(x));
     }
 }
 
-fn main() {
+// ---- a run
+
+// A call that is compared.
+pub trait Compared {
+    type Input;
+    fn name(&self) -> &str;
+    fn spoils(&self) -> Vec<Spoil>;
+    fn input(&self, random: &mut Random) -> Self::Input;
+    fn verdict(&self, input: &Self::Input, memory: &mut Vec<f64>, spoil: Spoil) -> Verdict;
+    fn shrink(
+        &self,
+        input: Self::Input,
+        fails: &mut dyn FnMut(&Self::Input) -> bool,
+    ) -> Self::Input;
+    fn print(&self, input: &Self::Input);
+}
+
+impl Compared for Call {
+    type Input = Lent;
+
+    fn name(&self) -> &str {
+        self.name
+    }
+
+    fn spoils(&self) -> Vec<Spoil> {
+        let mut spoils = vec![Spoil::Bit, Spoil::Number];
+        if !self.v.is_empty() {
+            spoils.extend([Spoil::Guard, Spoil::Refused]);
+        }
+        if self.v.iter().any(|name| !name.written) {
+            spoils.push(Spoil::Unwritten);
+        }
+        spoils
+    }
+
+    fn input(&self, random: &mut Random) -> Lent {
+        random.lent(self)
+    }
+
+    fn verdict(&self, l: &Lent, memory: &mut Vec<f64>, spoil: Spoil) -> Verdict {
+        let due = self.due(l);
+        let found = lend(l, memory, self.native, &due, spoil);
+        compare(&self.v, &self.o, &due, &found)
+    }
+
+    fn shrink(&self, l: Lent, fails: &mut dyn FnMut(&Lent) -> bool) -> Lent {
+        shrink(self, l, fails)
+    }
+
+    fn print(&self, l: &Lent) {
+        print(&self.v, &self.a, &self.o, l)
+    }
+}
+
+// The count and the seed on the command line.
+pub fn arguments(count: u64) -> (u64, u64) {
     let mut arguments = std::env::args()
         .skip(1)
         .map(|word| word.parse::<u64>().expect("a number"));
-    let (count, seed) = (
-        arguments.next().unwrap_or(10_000_000),
+    (
+        arguments.next().unwrap_or(count),
         arguments.next().unwrap_or(1),
-    );
-    let calls = all();
+    )
+}
+
+// How many passed and failed; each comparison is also shown to `seen`, with the place of its call.
+pub fn run<C: Compared>(
+    calls: &[C],
+    (count, seed): (u64, u64),
+    mut seen: impl FnMut(usize, &C::Input, &Verdict),
+) -> (u64, u64) {
     let spoiled_call = std::env::var("SPOIL").unwrap_or_default();
     let mut memory = vec![];
     let (mut passed, mut failed) = (0, 0);
 
     let (mut spoiled, mut missed) = (0, 0);
-    for call in &calls {
-        for spoil in [Spoil::Bit, Spoil::Guard, Spoil::Unwritten, Spoil::Number] {
-            if call.v.is_empty() && [Spoil::Guard, Spoil::Unwritten].contains(&spoil) {
-                continue;
-            }
+    for call in calls {
+        for spoil in call.spoils() {
             let mut random = Random(seed);
             // a nonnegative cone of one vector is refused from 4,097 entries on, which are rare
             let reported = (0..400_000).any(|_| {
-                let l = random.lent(call);
-                difference(call, &l, &mut memory, spoil).first.is_some()
-                    && difference(call, &l, &mut memory, Spoil::Nothing)
-                        .first
-                        .is_none()
+                let input = call.input(&mut random);
+                let mut reports = |spoil| call.verdict(&input, &mut memory, spoil).first.is_some();
+                reports(spoil) && !reports(Spoil::Nothing)
             });
             spoiled += 1;
             if !reported {
                 missed += 1;
-                println!("{}, spoiled ({spoil:?}): not reported", call.name);
+                println!("{}, spoiled ({spoil:?}): not reported", call.name());
             }
         }
     }
@@ -1189,42 +1334,48 @@ fn main() {
     failed += missed;
 
     let mut random = Random(seed);
-    let mut lines: Vec<[u64; 6]> = vec![[0; 6]; calls.len()];
-    let mut ways = std::collections::BTreeMap::new();
     let mut printed = vec![false; calls.len()];
     for k in 0..count {
         let at = k as usize % calls.len();
         let call = &calls[at];
-        let l = random.lent(call);
-        let spoil = if call.name == spoiled_call {
+        let input = call.input(&mut random);
+        let spoil = if call.name() == spoiled_call {
             Spoil::Bit
         } else {
             Spoil::Nothing
         };
-        let Verdict {
-            due,
-            numbers,
-            first,
-        } = difference(call, &l, &mut memory, spoil);
-        lines[at][[0, 2, 0, 0, 0, 3, 4, 5][due as usize]] += 1;
-        lines[at][1] += (due == 0 && numbers) as u64;
-        if due == 0 {
-            if let Some(way) = way(call, &l) {
-                *ways.entry(way).or_insert(0) += 1;
-            }
-        }
-        if first.is_none() {
+        let verdict = call.verdict(&input, &mut memory, spoil);
+        seen(at, &input, &verdict);
+        if verdict.first.is_none() {
             passed += 1;
             continue;
         }
         failed += 1;
         if !printed[at] {
             printed[at] = true;
-            let small = shrink(call, l, &mut memory, spoil);
-            let found = difference(call, &small, &mut memory, spoil);
-            print(call, &small, &found.first.unwrap());
+            let mut first = |input: &C::Input| call.verdict(input, &mut memory, spoil).first;
+            let small = call.shrink(input, &mut |input| first(input).is_some());
+            println!("{}: {}", call.name(), first(&small).unwrap());
+            call.print(&small);
         }
     }
+    (passed, failed)
+}
+
+fn main() {
+    let calls = all();
+    let mut lines: Vec<[u64; 6]> = vec![[0; 6]; calls.len()];
+    let mut ways = std::collections::BTreeMap::new();
+    let (passed, failed) = run(&calls, arguments(10_000_000), |at, l, verdict| {
+        let due = verdict.due;
+        lines[at][[0, 2, 0, 0, 0, 3, 4, 5][due as usize]] += 1;
+        lines[at][1] += (due == 0 && verdict.numbers) as u64;
+        if due == 0 {
+            if let Some(way) = way(&calls[at], l) {
+                *ways.entry(way).or_insert(0) += 1;
+            }
+        }
+    });
     println!(
         "{:28} {:>9} {:>9} {:>9} {:>9} {:>9} {:>9}",
         "call", "done", "no NaN", "refused 1", "5", "6", "7"

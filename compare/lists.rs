@@ -1,0 +1,619 @@
+// Every call on one cone of a list that akmuzrel exports, and the list's step, beside the crate's three
+// files over the stand-in. What is due: document 01's refusal table for lists, read here in Rust; else
+// what the files make of the cone's own numbers alone, as compare/calls.rs has it for the bare call of
+// that kind, put back into the whole buffers. So whatever is not the cone's own must keep its bits, the
+// row of records too. The list's step is the least of what the files tell of each cone.
+//
+// Otherwise as compare/calls.rs, which is taken in as a module: results spoiled on purpose, SPOIL, the
+// first difference of a call with the smallest input found, and the last line 'N passed, M failed'.
+#![allow(confusable_idents, mixed_script_confusables, uncommon_codepoints)]
+
+// the program that stands in that file is not run here
+#[macro_use]
+#[allow(dead_code, unused_attributes)]
+#[path = "calls.rs"]
+mod calls;
+
+use calls::random::Random;
+use calls::{
+    chosen, find, Call, Compared, Due, Equal, Lent, Name, Places, Spoil, Square, Taste, Verdict, P,
+};
+use std::ops::Range;
+
+// struct akm_cone
+#[repr(C)]
+#[derive(Clone, Copy, Debug, PartialEq)]
+struct Record {
+    start: usize,
+    kind: usize,
+    dimension: usize,
+}
+
+const NONNEGATIVE: usize = 0;
+const SECOND_ORDER: usize = 1;
+
+// before and behind the row; no cone
+const GUARD: Record = Record {
+    start: 0xdead_beef,
+    kind: 7,
+    dimension: 0xdead_beef,
+};
+
+#[derive(Clone)]
+struct Input {
+    row: Vec<Record>,
+    k: usize,
+    lent: Lent,
+}
+
+// The row in memory and the cone's index, for C.
+struct Row {
+    list: *mut Record,
+    length: usize,
+    k: usize,
+}
+
+// A call on a list lends what the bare call of the second-order cone lends, η and d as vectors.
+struct Listed<'a> {
+    name: &'static str,
+    soc: &'a Call,
+    nn: Option<&'a Call>,
+    v: Vec<Name>,
+    o: Vec<Name>,
+    native: fn(&Row, &mut Places) -> u8,
+}
+
+// The arguments behind the row and the index in C's order, as in compare/calls.rs.
+macro_rules! lists {
+    ($bare:ident: $($f:ident [$($words:tt)*];)*) => {
+        vec![$(Listed::new($bare, stringify!($f), |row, l| {
+            native!(@ l $f (row.list, row.length, row.k) (*mut Record, usize, usize) $($words)*)
+        })),*]
+    };
+}
+
+fn all(bare: &[Call]) -> Vec<Listed<'_>> {
+    let mut all = lists![bare:
+        akm_list_margins [v 0 o 0 o 1];
+        akm_list_scaled_unit_shift [v 0 a 0];
+        akm_list_unit_initialization [v 0 v 1];
+        akm_list_set_identity_scaling [v 0 v 1 v 2 v 3 v 4];
+        akm_list_update_scaling [v 0 v 1 v 2 v 3 v 4 v 5 v 6 v 7 t];
+        akm_list_get_hs [v 0 v 1 v 2 v 3];
+        akm_list_mul_hs [v 0 v 1 v 2 v 3];
+        akm_list_affine_ds [v 0 v 1];
+        akm_list_combined_ds_shift [v 0 v 1 v 2 a 0 v 3 v 4];
+        akm_list_ds_from_dz_offset [v 0 v 1 v 2 v 3 v 4 v 5];
+        akm_list_step_length [v 0 v 1 v 2 v 3 a 0 o 0 o 1];
+        akm_list_mul_w [v 0 v 1 a 0 a 1 v 2 v 3];
+        akm_list_mul_winv [v 0 v 1 a 0 a 1 v 2 v 3];
+        akm_list_circ_op [v 0 v 1 v 2];
+        akm_list_inv_circ_op [v 0 v 1 v 2];
+        akm_list_lambda_inv_circ_op [v 0 v 1 v 2];
+        akm_list_standing [v 0 t];
+    ];
+    all.push(Listed::new(bare, "akm_list_square_hs", |row, l| {
+        extern "C" {
+            fn akm_list_square_hs(
+                list: *mut Record,
+                list_len: usize,
+                k: usize,
+                w: P,
+                w_len: usize,
+                eta: P,
+                eta_len: usize,
+            ) -> Square;
+        }
+        let ((w, w_len), (eta, eta_len)) = (l.v[0], l.v[1]);
+        let square =
+            unsafe { akm_list_square_hs(row.list, row.length, row.k, w, w_len, eta, eta_len) };
+        l.rows = square.rows;
+        square.no
+    }));
+    all.push(Listed::new(bare, "akm_whole_step_length", |row, l| {
+        native!(@ l akm_whole_step_length (row.list, row.length) (*mut Record, usize) v 0 v 1 v 2 v 3 a 0 o 0 o 1)
+    }));
+    all
+}
+
+// ---- what is due
+
+// Document 01, "Refusal numbers": the count, then record by record the dimension, the start, the total.
+// A kind that is none counts as a dimension out of range.
+fn refusal_of_row(row: &[Record]) -> u8 {
+    if row.len() > 256 {
+        return 2;
+    }
+    let mut total = 0;
+    for c in row {
+        let least = if c.kind == SECOND_ORDER { 2 } else { 0 };
+        if c.kind > SECOND_ORDER || !(least..=4096).contains(&c.dimension) {
+            return 1;
+        }
+        if c.start != total {
+            return 3;
+        }
+        total += c.dimension;
+        if total > 65_536 {
+            return 2;
+        }
+    }
+    0
+}
+
+impl<'a> Listed<'a> {
+    fn new(
+        bare: &'a [Call],
+        name: &'static str,
+        native: fn(&Row, &mut Places) -> u8,
+    ) -> Listed<'a> {
+        let end = name
+            .trim_start_matches("akm_list")
+            .trim_start_matches("akm_whole");
+        let of = |cone: &str| bare.iter().find(|call| call.name == format!("{cone}{end}"));
+        let soc = of("akm_soc").unwrap();
+        let (by_cone, o): (Vec<Name>, _) = soc
+            .o
+            .iter()
+            .partition(|name| ["eta", "d"].contains(&name.name));
+        Listed {
+            name,
+            soc,
+            nn: of("akm_nn"),
+            v: [&soc.v[..], &by_cone].concat(),
+            o,
+            native,
+        }
+    }
+
+    fn whole(&self) -> bool {
+        self.name == "akm_whole_step_length"
+    }
+
+    fn square(&self) -> bool {
+        self.name == "akm_list_square_hs"
+    }
+
+    // the bare call of the cone's kind
+    fn of(&self, c: &Record) -> Option<&'a Call> {
+        match c.kind {
+            SECOND_ORDER => Some(self.soc),
+            _ => self.nn,
+        }
+    }
+
+    // Document 01, "The list and its buffers": how many numbers of buffer j are the cone's. What is a
+    // cone's lies behind what is of the cones before it.
+    fn share(&self, j: usize, c: &Record) -> usize {
+        match (self.v[j].name, c.kind) {
+            ("eta" | "d", _) => 1,
+            (_, SECOND_ORDER) => self.soc.length(j, c.dimension),
+            _ => c.dimension,
+        }
+    }
+
+    // the cone's own range; a row that is refused can have any dimensions
+    fn own(&self, j: usize, row: &[Record], k: usize) -> Range<usize> {
+        let shares = row[..k].iter().map(|c| self.share(j, c));
+        let start = shares.fold(0, usize::saturating_add);
+        start..start.saturating_add(self.share(j, &row[k]))
+    }
+
+    fn length(&self, j: usize, row: &[Record]) -> usize {
+        row.iter().map(|c| self.share(j, c)).sum()
+    }
+
+    fn refusal(&self, input: &Input) -> u8 {
+        let Input { row, k, lent } = input;
+        let no = refusal_of_row(row);
+        if no > 0 {
+            return no;
+        }
+        if !self.whole() && *k >= row.len() {
+            return 4;
+        }
+        if self.square() && (row[*k].kind != SECOND_ORDER || row[*k].dimension > 4) {
+            return 7;
+        }
+        if (0..self.v.len()).any(|j| lent.v[j].len() != self.length(j, row)) {
+            return 5;
+        }
+        self.soc.limit_refusal(lent)
+    }
+
+    // What the bare call of cone k is lent, and put back.
+    fn taken(&self, call: &Call, input: &Input, k: usize) -> Lent {
+        let Input { row, lent, .. } = input;
+        let buffer = |name: &Name| {
+            let j = find(&self.v, name.name)?;
+            Some(&lent.v[j][self.own(j, row, k)])
+        };
+        let one = |name: &Name| match find(&self.o, name.name) {
+            Some(j) => lent.o[j],
+            None => buffer(name).unwrap()[0],
+        };
+        Lent {
+            v: call
+                .v
+                .iter()
+                .map(|name| buffer(name).unwrap().to_vec())
+                .collect(),
+            o: call.o.iter().map(one).collect(),
+            ..lent.clone()
+        }
+    }
+
+    fn put(&self, call: &Call, own: &Lent, row: &[Record], k: usize, lent: &mut Lent) {
+        for (j, name) in self.v.iter().enumerate() {
+            let to = &mut lent.v[j][self.own(j, row, k)];
+            if let Some(i) = find(&call.v, name.name) {
+                to.copy_from_slice(&own.v[i]);
+            } else if let Some(i) = find(&call.o, name.name) {
+                to[0] = own.o[i];
+            }
+        }
+        for (j, name) in self.o.iter().enumerate() {
+            lent.o[j] = own.o[find(&call.o, name.name).unwrap()];
+        }
+        (lent.t, lent.rows) = (own.t, own.rows);
+    }
+
+    // Document 01: each cone gets the caller's limit, and each side's least is the answer.
+    fn whole_step(&self, input: &Input, due: &mut Due) {
+        let steps = |k| {
+            let call = self.of(&input.row[k]).unwrap();
+            call.due(&self.taken(call, input, k)).lent.o
+        };
+        let steps: Vec<_> = (0..input.row.len()).map(steps).collect();
+        for side in 0..2 {
+            let least = steps
+                .iter()
+                .map(|o| o[side])
+                .reduce(|a, b| chosen(a, b, b < a));
+            due.lent.o[side] = least.unwrap_or(input.lent.a[0]);
+            due.o[side] = Equal::Value;
+        }
+    }
+
+    fn due(&self, input: &Input) -> Due {
+        let mut due = Due::kept(self.refusal(input), self.name, &input.lent);
+        if due.no > 0 {
+            return due;
+        }
+        if self.whole() {
+            self.whole_step(input, &mut due);
+            return due;
+        }
+        let Input { row, k, .. } = input;
+        let call = self.of(&row[*k]).unwrap();
+        let own = call.due(&self.taken(call, input, *k));
+        assert_eq!(own.no, 0);
+        self.put(call, &own.lent, row, *k, &mut due.lent);
+        for (j, name) in self.v.iter().enumerate() {
+            let range = self.own(j, row, *k);
+            if let Some(i) = find(&call.v, name.name) {
+                due.v[j] = range.start + own.v[i].start..range.start + own.v[i].end;
+            } else if find(&call.o, name.name).is_some_and(|i| own.o[i] != Equal::Bits) {
+                due.v[j] = range;
+            }
+        }
+        for (j, name) in self.o.iter().enumerate() {
+            due.o[j] = own.o[find(&call.o, name.name).unwrap()];
+        }
+        due.told = own.told;
+        due
+    }
+}
+
+// ---- inputs
+
+// one behind the other
+fn tiled(cones: impl IntoIterator<Item = (usize, usize)>) -> Vec<Record> {
+    let mut start = 0;
+    let record = |(kind, dimension)| {
+        let record = Record {
+            start,
+            kind,
+            dimension,
+        };
+        start += dimension;
+        record
+    };
+    cones.into_iter().map(record).collect()
+}
+
+// Few cones for the most part; now and then about 256 cones, or about 65,536 entries.
+fn row(random: &mut Random) -> Vec<Record> {
+    let dimensions: Vec<usize> = match random.below(4096) {
+        0 => {
+            let mut most = vec![4096; 16];
+            most[15] -= random.below(3);
+            most.push(random.below(4));
+            most
+        }
+        1 => {
+            let mut most = vec![256; 256];
+            most[random.below(256)] += random.below(4);
+            most[random.below(256)] -= random.below(4);
+            most
+        }
+        2..=24 => (0..255 + random.below(3))
+            .map(|_| random.below(4))
+            .collect(),
+        _ => (0..random.below(9)).map(|_| random.dimension()).collect(),
+    };
+    tiled(dimensions.into_iter().map(|n| {
+        let kind = random.below(2);
+        let few = kind == SECOND_ORDER && n < 2;
+        (kind, if few { n + 2 } else { n })
+    }))
+}
+
+// a row that may be refused
+fn damage_row(random: &mut Random, row: &mut Vec<Record>) {
+    let huge = [1 << 32, 1 << 63, usize::MAX, usize::MAX - 4095][random.below(4)];
+    if random.one_in(16) {
+        let (many, last) = (15 + random.below(3), random.below(4));
+        let cones = (0..many)
+            .map(|_| (random.below(2), 4096))
+            .collect::<Vec<_>>();
+        *row = tiled(cones.into_iter().chain([(NONNEGATIVE, last)]));
+    }
+    for _ in 0..1 + random.below(2) {
+        if row.is_empty() {
+            return;
+        }
+        let (i, other) = (random.below(row.len()), random.below(row.len()));
+        let c = &mut row[i];
+        match random.below(12) {
+            0..=1 => c.start = c.start.wrapping_add(1),
+            2 => c.start = c.start.wrapping_sub(1),
+            3 => c.start = c.start.wrapping_add(huge),
+            4 => c.kind = [2, 256, 257, usize::MAX][random.below(4)],
+            5 => c.kind = c.kind.wrapping_add(huge),
+            6 => c.kind ^= 1,
+            7 => (c.kind, c.dimension) = (SECOND_ORDER, random.below(2)),
+            8 => c.dimension = 4097,
+            9 => c.dimension = c.dimension.wrapping_add(huge),
+            10 => {
+                c.dimension = c
+                    .dimension
+                    .wrapping_add(1)
+                    .wrapping_sub(2 * random.below(2))
+            }
+            _ => row.swap(i, other),
+        }
+    }
+}
+
+impl Listed<'_> {
+    // The numbers of a cone that the call reads go together; the others are of any kind.
+    fn fitting(&self, random: &mut Random, row: Vec<Record>, k: usize) -> Input {
+        let taste = [Taste::Any, Taste::Any, Taste::Any, Taste::Special][random.below(4)];
+        let v = (0..self.v.len()).map(|j| self.length(j, &row));
+        let v = v.map(|n| (0..n).map(|_| random.number(taste)).collect());
+        let v = v.collect();
+        let o = self.o.iter().map(|_| random.number(taste)).collect();
+        let Lent { a, t, rows, .. } = random.fitting(self.soc, 2);
+        let mut lent = Lent { v, a, o, t, rows };
+        for i in 0..row.len() {
+            let named = self.whole() || i == k;
+            if let Some(call) = self.of(&row[i]).filter(|_| named) {
+                let own = random.fitting(call, row[i].dimension);
+                self.put(call, &own, &row, i, &mut lent);
+                lent.a = own.a;
+            }
+        }
+        Input { row, k, lent }
+    }
+
+    // lengths that may be wrong
+    fn damage_length(&self, random: &mut Random, l: &mut Lent) {
+        let (j, other) = (random.below(l.v.len()), random.below(l.v.len()));
+        let n = l.v[j].len();
+        let length = match random.below(6) {
+            0..=1 => n.saturating_sub(1),
+            2..=3 => n + 1,
+            4 => l.v[other].len(),
+            _ => random.below(14),
+        };
+        let more = random.number(Taste::Mixed);
+        l.v[j].resize(length, more);
+    }
+
+    // a cone is dropped, or has another dimension, and its numbers with it
+    fn cut(&self, input: &Input, i: usize, dimension: Option<usize>) -> Input {
+        let mut cut = input.clone();
+        let c = input.row[i];
+        for (j, x) in cut.lent.v.iter_mut().enumerate() {
+            let Range { start, end } = self.own(j, &input.row, i);
+            let range = start.min(x.len())..end.min(x.len());
+            let share = dimension.map_or(0, |dimension| self.share(j, &Record { dimension, ..c }));
+            let mut rest = x[range.clone()].to_vec();
+            rest.resize(share, 1.0);
+            x.splice(range, rest);
+        }
+        let less = c.dimension.wrapping_sub(dimension.unwrap_or(0));
+        cut.row[i].dimension = dimension.unwrap_or(0);
+        for c in &mut cut.row[i + 1..] {
+            c.start = c.start.wrapping_sub(less);
+        }
+        if dimension.is_none() {
+            cut.row.remove(i);
+            cut.k -= (cut.k > i) as usize;
+        }
+        cut
+    }
+}
+
+impl Compared for Listed<'_> {
+    type Input = Input;
+
+    fn name(&self) -> &str {
+        self.name
+    }
+
+    fn spoils(&self) -> Vec<Spoil> {
+        vec![
+            Spoil::Bit,
+            Spoil::Number,
+            Spoil::Guard,
+            Spoil::Refused,
+            Spoil::Unwritten,
+        ]
+    }
+
+    fn input(&self, random: &mut Random) -> Input {
+        let row = row(random);
+        let k = random.below(row.len().max(1));
+        let mut input = self.fitting(random, row, k);
+        if random.one_in(6) {
+            damage_row(random, &mut input.row);
+        }
+        if random.one_in(12) {
+            let n = input.row.len();
+            input.k = [n, n + 1, 256, k | 1 << 32, k | 1 << 63, usize::MAX][random.below(6)];
+        }
+        if random.one_in(6) {
+            self.damage_length(random, &mut input.lent);
+        }
+        input
+    }
+
+    fn verdict(&self, input: &Input, memory: &mut Vec<f64>, spoil: Spoil) -> Verdict {
+        let due = self.due(input);
+        let mut row = [&[GUARD], &input.row[..], &[GUARD]].concat();
+        let place = Row {
+            list: row[1..].as_mut_ptr(),
+            length: input.row.len(),
+            k: input.k,
+        };
+        let native = |l: &mut Places| (self.native)(&place, l);
+        let found = calls::lend(&input.lent, memory, native, &due, spoil);
+        let mut verdict = calls::compare(&self.v, &self.o, &due, &found);
+        if row != [&[GUARD], &input.row[..], &[GUARD]].concat() {
+            verdict.first = Some("the row of records was written to".to_string());
+        }
+        verdict
+    }
+
+    // Cones are dropped and shortened, buffers are emptied, and numbers become plainer.
+    fn shrink(&self, mut input: Input, fails: &mut dyn FnMut(&Input) -> bool) -> Input {
+        loop {
+            let mut smaller = false;
+            for i in (0..input.row.len()).rev() {
+                let n = input.row[i].dimension;
+                let shorter = [0, 2, 4, 5, n / 2, n.saturating_sub(1)];
+                let shorter = shorter.into_iter().filter(|m| *m < n && *m <= 4096);
+                for dimension in std::iter::once(None).chain(shorter.map(Some)) {
+                    let cut = self.cut(&input, i, dimension);
+                    if fails(&cut) {
+                        input = cut;
+                        smaller = true;
+                        break;
+                    }
+                }
+            }
+            for j in 0..self.v.len() {
+                let mut less = input.clone();
+                less.lent.v[j].clear();
+                if !input.lent.v[j].is_empty() && fails(&less) {
+                    input = less;
+                    smaller = true;
+                }
+            }
+            let (row, k) = (input.row.clone(), input.k);
+            let mut fails = |lent: &Lent| {
+                fails(&Input {
+                    row: row.clone(),
+                    k,
+                    lent: lent.clone(),
+                })
+            };
+            if !calls::plainer(&mut input.lent, &mut fails) && !smaller {
+                return input;
+            }
+        }
+    }
+
+    fn print(&self, input: &Input) {
+        let kind = |kind| match kind {
+            NONNEGATIVE => "nonnegative".to_string(),
+            SECOND_ORDER => "second-order".to_string(),
+            other => format!("kind {other}"),
+        };
+        println!("    row of {}", input.row.len());
+        for c in input.row.iter().take(32) {
+            println!(
+                "        from {}, {} of {}",
+                c.start,
+                kind(c.kind),
+                c.dimension
+            );
+        }
+        if !self.whole() {
+            println!("    k = {}", input.k);
+        }
+        calls::print(&self.v, &self.soc.a, &self.o, &input.lent);
+    }
+}
+
+const COLUMNS: [&str; 12] = [
+    "done",
+    "second-order",
+    "nonnegative",
+    "no NaN",
+    "refused 1",
+    "2, cones",
+    "2, entries",
+    "3",
+    "4",
+    "5",
+    "6",
+    "7",
+];
+
+fn main() {
+    let bare = calls::all();
+    let calls = all(&bare);
+    let mut lines = vec![[0u64; COLUMNS.len()]; calls.len()];
+    let (passed, failed) = calls::run(&calls, calls::arguments(3_000_000), |at, input, verdict| {
+        let line = &mut lines[at];
+        match verdict.due {
+            0 => {
+                line[0] += 1;
+                if !calls[at].whole() {
+                    line[2 - input.row[input.k].kind] += 1;
+                }
+                line[3] += verdict.numbers as u64;
+            }
+            1 => line[4] += 1,
+            2 if input.row.len() > 256 => line[5] += 1,
+            2 => line[6] += 1,
+            no => line[4 + no as usize] += 1,
+        }
+    });
+    print!("{:30}", "call");
+    COLUMNS.iter().for_each(|column| print!(" {column:>12}"));
+    println!();
+    for (call, line) in std::iter::zip(&calls, lines) {
+        print!("{:30}", call.name);
+        for (column, times) in std::iter::zip(COLUMNS, line) {
+            // what this call cannot come to
+            let none = match column {
+                "second-order" | "4" => call.whole(),
+                "nonnegative" => call.whole() || call.square(),
+                "6" => find(&call.soc.a, "limit").is_none(),
+                "7" => !call.square(),
+                _ => false,
+            };
+            match none && times == 0 {
+                true => print!(" {:>12}", "-"),
+                false => print!(" {times:12}"),
+            }
+        }
+        println!();
+    }
+    println!("{passed} passed, {failed} failed");
+    std::process::exit((failed > 0) as i32);
+}
