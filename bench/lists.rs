@@ -16,95 +16,14 @@ type N = usize;
 type Row = *const [usize; 3];
 type Place = *const [usize; 8];
 
+#[rustfmt::skip]
 extern "C" {
     fn akm_soc_mul_w(y: P, _: N, x: P, _: N, a: f64, b: f64, w: P, _: N, eta: P) -> u8;
-    fn akm_list_mul_w(
-        list: Row,
-        _: N,
-        k: N,
-        y: P,
-        _: N,
-        x: P,
-        _: N,
-        a: f64,
-        b: f64,
-        w: P,
-        _: N,
-        eta: P,
-        _: N,
-    ) -> u8;
-    fn measured_mul_w_at(
-        at: Place,
-        y: P,
-        _: N,
-        x: P,
-        _: N,
-        a: f64,
-        b: f64,
-        w: P,
-        _: N,
-        eta: P,
-        _: N,
-    ) -> u8;
-    fn akm_soc_update_scaling(
-        s: P,
-        _: N,
-        z: P,
-        _: N,
-        w: P,
-        _: N,
-        l: P,
-        _: N,
-        u: P,
-        _: N,
-        v: P,
-        _: N,
-        eta: P,
-        d: P,
-        told: *mut u8,
-    ) -> u8;
-    fn akm_list_update_scaling(
-        list: Row,
-        _: N,
-        k: N,
-        s: P,
-        _: N,
-        z: P,
-        _: N,
-        w: P,
-        _: N,
-        l: P,
-        _: N,
-        u: P,
-        _: N,
-        v: P,
-        _: N,
-        eta: P,
-        _: N,
-        d: P,
-        _: N,
-        told: *mut u8,
-    ) -> u8;
-    fn measured_update_scaling_at(
-        at: Place,
-        s: P,
-        _: N,
-        z: P,
-        _: N,
-        w: P,
-        _: N,
-        l: P,
-        _: N,
-        u: P,
-        _: N,
-        v: P,
-        _: N,
-        eta: P,
-        _: N,
-        d: P,
-        _: N,
-        told: *mut u8,
-    ) -> u8;
+    fn akm_list_mul_w(list: Row, _: N, k: N, y: P, _: N, x: P, _: N, a: f64, b: f64, w: P, _: N, eta: P, _: N) -> u8;
+    fn measured_mul_w_at(at: Place, y: P, _: N, x: P, _: N, a: f64, b: f64, w: P, _: N, eta: P, _: N) -> u8;
+    fn akm_soc_update_scaling(s: P, _: N, z: P, _: N, w: P, _: N, l: P, _: N, u: P, _: N, v: P, _: N, eta: P, d: P, told: *mut u8) -> u8;
+    fn akm_list_update_scaling(list: Row, _: N, k: N, s: P, _: N, z: P, _: N, w: P, _: N, l: P, _: N, u: P, _: N, v: P, _: N, eta: P, _: N, d: P, _: N, told: *mut u8) -> u8;
+    fn measured_update_scaling_at(at: Place, s: P, _: N, z: P, _: N, w: P, _: N, l: P, _: N, u: P, _: N, v: P, _: N, eta: P, _: N, d: P, _: N, told: *mut u8) -> u8;
 }
 
 fn kept(x: Vec<f64>) -> Lent {
@@ -172,58 +91,17 @@ pub fn lists(bench: &Bench, random: &mut Random) {
     let at = |x: Lent, k: usize| unsafe { x.at.add(k * DIM) };
     let own = |x: Lent, k: usize| unsafe { x.at.add(k) };
 
-    let bare = black_box(
-        akm_soc_update_scaling
-            as unsafe extern "C" fn(_, _, _, _, _, _, _, _, _, _, _, _, _, _, _) -> _,
-    );
+    #[rustfmt::skip]
     let bare = |k| unsafe {
-        bare(
-            at(s, k),
-            DIM,
-            at(z, k),
-            DIM,
-            at(w, k),
-            DIM,
-            at(l, k),
-            DIM,
-            at(u, k),
-            DIM,
-            at(v, k),
-            DIM,
-            own(eta, k),
-            own(d, k),
-            told,
-        )
+        akm_soc_update_scaling(at(s, k), DIM, at(z, k), DIM, at(w, k), DIM, at(l, k), DIM, at(u, k), DIM, at(v, k), DIM, own(eta, k), own(d, k), told)
     };
+    #[rustfmt::skip]
     let over = |k: usize| unsafe {
-        measured_update_scaling_at(
-            &places[k], s.at, ALL, z.at, ALL, w.at, ALL, l.at, ALL, u.at, ALL, v.at, ALL, eta.at,
-            CONES, d.at, CONES, told,
-        )
+        measured_update_scaling_at(&places[k], s.at, ALL, z.at, ALL, w.at, ALL, l.at, ALL, u.at, ALL, v.at, ALL, eta.at, CONES, d.at, CONES, told)
     };
+    #[rustfmt::skip]
     let walked = |k: usize| unsafe {
-        akm_list_update_scaling(
-            row.as_ptr(),
-            CONES,
-            k,
-            s.at,
-            ALL,
-            z.at,
-            ALL,
-            w.at,
-            ALL,
-            l.at,
-            ALL,
-            u.at,
-            ALL,
-            v.at,
-            ALL,
-            eta.at,
-            CONES,
-            d.at,
-            CONES,
-            told,
-        )
+        akm_list_update_scaling(row.as_ptr(), CONES, k, s.at, ALL, z.at, ALL, w.at, ALL, l.at, ALL, u.at, ALL, v.at, ALL, eta.at, CONES, d.at, CONES, told)
     };
     let seen = [y, w, l, u, v, eta, d];
     sweep(bench, "list update_scaling, places", &seen, over, bare);
@@ -232,42 +110,12 @@ pub fn lists(bench: &Bench, random: &mut Random) {
     for k in 0..CONES {
         assert_eq!(bare(k), 0);
     }
-    let bare = black_box(akm_soc_mul_w as unsafe extern "C" fn(_, _, _, _, _, _, _, _, _) -> _);
-    let bare = |k| unsafe {
-        bare(
-            at(y, k),
-            DIM,
-            at(z, k),
-            DIM,
-            0.75,
-            0.5,
-            at(w, k),
-            DIM,
-            own(eta, k),
-        )
-    };
-    let over = |k: usize| unsafe {
-        measured_mul_w_at(
-            &places[k], y.at, ALL, z.at, ALL, 0.75, 0.5, w.at, ALL, eta.at, CONES,
-        )
-    };
-    let walked = |k: usize| unsafe {
-        akm_list_mul_w(
-            row.as_ptr(),
-            CONES,
-            k,
-            y.at,
-            ALL,
-            z.at,
-            ALL,
-            0.75,
-            0.5,
-            w.at,
-            ALL,
-            eta.at,
-            CONES,
-        )
-    };
+    #[rustfmt::skip]
+    let bare = |k| unsafe { akm_soc_mul_w(at(y, k), DIM, at(z, k), DIM, 0.75, 0.5, at(w, k), DIM, own(eta, k)) };
+    #[rustfmt::skip]
+    let over = |k: usize| unsafe { measured_mul_w_at(&places[k], y.at, ALL, z.at, ALL, 0.75, 0.5, w.at, ALL, eta.at, CONES) };
+    #[rustfmt::skip]
+    let walked = |k: usize| unsafe { akm_list_mul_w(row.as_ptr(), CONES, k, y.at, ALL, z.at, ALL, 0.75, 0.5, w.at, ALL, eta.at, CONES) };
     sweep(bench, "list mul_w, places", &seen, over, bare);
     sweep(bench, "list mul_w, the row", &seen, walked, bare);
 }

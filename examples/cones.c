@@ -1,4 +1,4 @@
-/* A scaling, a product, a step and a refusal, from C. examples/run builds and runs it. */
+/* A scaling, a product, a step and a refusal, of one cone and of a list, from C. examples/run builds and runs it. */
 #include <stdio.h>
 
 #include "akmuzrel.h"
@@ -40,5 +40,16 @@ int main(void) {
     /* a vector too short is refused, and y is as it was */
     printf("refused with %d\n", akm_soc_mul_w(y, N, z, N - 1, 1, 0, w, N, &eta));
     print("W*z", y, N);
+
+    /* a list: two entries that are not to be negative, and behind them the cone above */
+    enum { ALL = 2 + N };
+    const struct akm_cone list[2] = {{0, AKM_NONNEGATIVE, 2}, {2, AKM_SECOND_ORDER, N}};
+    const double all_s[ALL] = {1, 2, 5, 3, 0}, all_z[ALL] = {2, 1, 5, -3, 0};
+    const double all_ds[ALL] = {1, -3, -1, 2, 0}, all_dz[ALL] = {1, 1, 1, 0, 2};
+    akm_list_step_length(list, 2, 1, all_dz, ALL, all_ds, ALL, all_z, ALL, all_s, ALL, 1, &step_z, &step_s);
+    printf("steps of cone 1 %.17g and %.17g\n", step_z, step_s);
+    akm_whole_step_length(list, 2, all_dz, ALL, all_ds, ALL, all_z, ALL, all_s, ALL, 1, &step_z, &step_s);
+    printf("steps of the list %.17g and %.17g\n", step_z, step_s);
+    printf("cone 2 is refused with %d\n", akm_list_standing(list, 2, 2, all_z, ALL, &standing));
     return 0;
 }
