@@ -740,7 +740,7 @@ pub fn compare(v: &[Name], o: &[Name], due: &Due, found: &Found) -> Verdict {
 }
 
 // Which way a call took that has several, by the files.
-fn way(call: &Call, l: &Lent) -> Option<&'static str> {
+pub fn way(call: &Call, l: &Lent) -> Option<&'static str> {
     let mut after = l.clone();
     match call.name {
         "akm_soc_update_scaling" => {

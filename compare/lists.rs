@@ -12,7 +12,7 @@
 #[macro_use]
 #[allow(dead_code, unused_attributes)]
 #[path = "calls.rs"]
-mod calls;
+pub mod calls;
 
 use calls::random::Random;
 use calls::{
@@ -23,10 +23,10 @@ use std::ops::Range;
 // struct akm_cone
 #[repr(C)]
 #[derive(Clone, Copy, Debug, PartialEq)]
-struct Record {
-    start: usize,
-    kind: usize,
-    dimension: usize,
+pub struct Record {
+    pub start: usize,
+    pub kind: usize,
+    pub dimension: usize,
 }
 
 const NONNEGATIVE: usize = 0;
@@ -40,26 +40,26 @@ const GUARD: Record = Record {
 };
 
 #[derive(Clone)]
-struct Input {
-    row: Vec<Record>,
-    k: usize,
-    lent: Lent,
+pub struct Input {
+    pub row: Vec<Record>,
+    pub k: usize,
+    pub lent: Lent,
 }
 
 // The row in memory and the cone's index, for C.
-struct Row {
+pub struct Row {
     list: *mut Record,
     length: usize,
     k: usize,
 }
 
 // A call on a list lends what the bare call of the second-order cone lends, η and d as vectors.
-struct Listed<'a> {
-    name: &'static str,
+pub struct Listed<'a> {
+    pub name: &'static str,
     soc: &'a Call,
     nn: Option<&'a Call>,
     v: Vec<Name>,
-    o: Vec<Name>,
+    pub o: Vec<Name>,
     native: fn(&Row, &mut Places) -> u8,
 }
 
@@ -72,7 +72,7 @@ macro_rules! lists {
     };
 }
 
-fn all(bare: &[Call]) -> Vec<Listed<'_>> {
+pub fn all(bare: &[Call]) -> Vec<Listed<'_>> {
     let mut all = lists![bare:
         akm_list_margins [v 0 o 0 o 1];
         akm_list_scaled_unit_shift [v 0 a 0];
@@ -275,7 +275,7 @@ impl<'a> Listed<'a> {
         }
     }
 
-    fn due(&self, input: &Input) -> Due {
+    pub fn due(&self, input: &Input) -> Due {
         let mut due = Due::kept(self.refusal(input), self.name, &input.lent);
         if due.no > 0 {
             return due;
@@ -308,7 +308,7 @@ impl<'a> Listed<'a> {
 // ---- inputs
 
 // one behind the other
-fn tiled(cones: impl IntoIterator<Item = (usize, usize)>) -> Vec<Record> {
+pub fn tiled(cones: impl IntoIterator<Item = (usize, usize)>) -> Vec<Record> {
     let mut start = 0;
     let record = |(kind, dimension)| {
         let record = Record {
@@ -388,7 +388,7 @@ fn damage_row(random: &mut Random, row: &mut Vec<Record>) {
 
 impl Listed<'_> {
     // The numbers of a cone that the call reads go together; the others are of any kind.
-    fn fitting(&self, random: &mut Random, row: Vec<Record>, k: usize) -> Input {
+    pub fn fitting(&self, random: &mut Random, row: Vec<Record>, k: usize) -> Input {
         let taste = [Taste::Any, Taste::Any, Taste::Any, Taste::Special][random.below(4)];
         let v = (0..self.v.len()).map(|j| self.length(j, &row));
         let v = v.map(|n| (0..n).map(|_| random.number(taste)).collect());

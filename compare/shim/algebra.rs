@@ -38,6 +38,19 @@ extern "C" {
     fn akm_sqrt(x: f64) -> f64;
 }
 
+// Of two opposite zeros Rust's least and greatest may be either. With --cfg two_zeros it is the first,
+// or, where SECOND is set, the second: a program that runs a call both ways knows whether it matters.
+#[cfg(two_zeros)]
+pub static SECOND: std::sync::atomic::AtomicBool = std::sync::atomic::AtomicBool::new(false);
+
+#[cfg(two_zeros)]
+fn either(a: f64, b: f64) -> f64 {
+    match SECOND.load(std::sync::atomic::Ordering::Relaxed) {
+        true => b,
+        false => a,
+    }
+}
+
 impl FloatT for f64 {
     fn of(x: f64) -> f64 {
         x
@@ -72,9 +85,17 @@ impl FloatT for f64 {
         1.0 / self
     }
     fn min(self, other: f64) -> f64 {
+        #[cfg(two_zeros)]
+        if self == other {
+            return either(self, other);
+        }
         f64::min(self, other)
     }
     fn max(self, other: f64) -> f64 {
+        #[cfg(two_zeros)]
+        if self == other {
+            return either(self, other);
+        }
         f64::max(self, other)
     }
     fn logsafe(self) -> f64 {
