@@ -578,21 +578,7 @@ pub fn lend(
         at += n + GUARDS;
         p
     };
-    // a vector of no entries is now and then a null pointer
-    let null = l.t & 1 == 0;
-    let v = l.v.iter().map(|x| (place(x.len()), x.len()));
-    let v: Vec<_> = v
-        .map(|(p, n)| {
-            (
-                if null && n == 0 {
-                    std::ptr::null_mut()
-                } else {
-                    p
-                },
-                n,
-            )
-        })
-        .collect();
+    let v: Vec<_> = l.v.iter().map(|x| (place(x.len()), x.len())).collect();
     let o: Vec<_> = l.o.iter().map(|_| place(1)).collect();
     let mut places = Places {
         v,
@@ -636,7 +622,7 @@ fn spoiled(no: &mut u8, l: &mut Places, due: &Due, spoil: Spoil) {
         Spoil::Nothing => {}
         Spoil::Number => *no ^= 1,
         Spoil::Guard => {
-            if let Some((p, n)) = l.v.last().filter(|(p, _)| !p.is_null()) {
+            if let Some((p, n)) = l.v.last() {
                 unsafe { *p.add(*n) = 0.0 };
             }
         }
