@@ -45,7 +45,7 @@ int main(void) {
     enum { ALL = 2 + N };
     const struct akm_cone list[2] = {{0, AKM_NONNEGATIVE, 2}, {2, AKM_SECOND_ORDER, N}};
     const double all_s[ALL] = {1, 2, 5, 3, 0}, all_z[ALL] = {2, 1, 5, -3, 0};
-    const double all_ds[ALL] = {1, -3, -1, 2, 0}, all_dz[ALL] = {1, 1, 1, 0, 2};
+    const double all_ds[ALL] = {1, -4, -1, 2, 0}, all_dz[ALL] = {1, 1, 1, 0, 2};
     akm_list_step_length(list, 2, 1, all_dz, ALL, all_ds, ALL, all_z, ALL, all_s, ALL, 1, &step_z, &step_s);
     printf("steps of cone 1 %.17g and %.17g\n", step_z, step_s);
     akm_whole_step_length(list, 2, all_dz, ALL, all_ds, ALL, all_z, ALL, all_s, ALL, 1, &step_z, &step_s);
