@@ -5,8 +5,22 @@ ghost use mathlib.Core.Path.{_≡_};
 ghost use mathlib.Core.List.{[], _∷_};
 ghost use Rattle.answers.specs.Outcome.{toldSquare};
 ghost use Rattle.conelist.specs.Layout.{PlaceOf};
-ghost use Rattle.conecalls.specs.Calls.{MarginsAt, ScaledUnitShiftAt, UnitInitializationAt, SetIdentityScalingAt, UpdateScalingAt, GetHsAt, SquareHsAt, MulHsAt, AffineDsAt, CombinedDsShiftAt, DsFromDzOffsetAt, StepLengthAt, MulWAt, MulWinvAt, CircOpAt, InvCircOpAt, LambdaInvCircOpAt, StandingAt};
-ghost use Rattle.conecalls.specs.List.{ListStepLength};
+ghost use Rattle.list_margins.specs.Margins.{MarginsAt};
+ghost use Rattle.list_units.specs.Units.{ScaledUnitShiftAt, UnitInitializationAt};
+ghost use Rattle.list_identity.specs.Identity.{SetIdentityScalingAt};
+ghost use Rattle.list_scaling.specs.Scaling.{UpdateScalingAt};
+ghost use Rattle.list_blocks.specs.Block.{GetHsAt};
+ghost use Rattle.list_square.specs.Square.{SquareHsAt};
+ghost use Rattle.list_mul_hs.specs.Block.{MulHsAt};
+ghost use Rattle.list_jordan.specs.Jordan.{AffineDsAt, CircOpAt};
+ghost use Rattle.list_combined.specs.Combined.{CombinedDsShiftAt};
+ghost use Rattle.list_offset.specs.Offset.{DsFromDzOffsetAt};
+ghost use Rattle.list_step.specs.Step.{StepLengthAt};
+ghost use Rattle.list_products.specs.Product.{MulWAt};
+ghost use Rattle.list_mul_winv.specs.Product.{MulWinvAt};
+ghost use Rattle.list_inverse.specs.Inverse.{InvCircOpAt, LambdaInvCircOpAt};
+ghost use Rattle.list_standing.specs.Standing.{StandingAt};
+ghost use Rattle.whole_step.specs.List.{ListStepLength};
 ghost use Rattle.records.specs.Record.{Cones};
 ghost use Rattle.codes.specs.Code.{real, whole, export, Exported};
 
@@ -22,7 +36,7 @@ pub extern "C" fn akm_list_margins(
         ≡ Exported (real (now (alpha .entry)) ∷ real (now (beta .entry)) ∷ []) (MarginsAt (PlaceOf (Cones (now (list .entry))) k) (now (z .entry))) ⌝ }
 {
     let p = records::place_of(list, k);
-    codes::margins(list_units::margins_at(p, z), alpha, beta)
+    codes::margins(list_margins::margins_at(p, z), alpha, beta)
 }
 
 #[no_mangle]
@@ -120,7 +134,7 @@ pub extern "C" fn akm_list_square_hs(
     ensures { λ r. ⌜ toldSquare r ≡ SquareHsAt (PlaceOf (Cones (now (list .entry))) k) (now (w .entry)) (now (eta .entry)) ⌝ }
 {
     let p = records::place_of(list, k);
-    list_blocks::square_hs_at(p, w, eta)
+    list_square::square_hs_at(p, w, eta)
 }
 
 #[no_mangle]
@@ -245,7 +259,7 @@ pub extern "C" fn akm_list_mul_winv(
         ≡ Exported [] (MulWinvAt (PlaceOf (Cones (now (list .entry))) k) (now (y .entry)) (now (x .entry)) alpha beta (now (w .entry)) (now (eta .entry))) ⌝ }
 {
     let p = records::place_of(list, k);
-    codes::answer(list_products::mul_winv_at(p, y, x, alpha, beta, w, eta))
+    codes::answer(list_mul_winv::mul_winv_at(p, y, x, alpha, beta, w, eta))
 }
 
 #[no_mangle]
@@ -275,7 +289,7 @@ pub extern "C" fn akm_list_inv_circ_op(
         ≡ Exported [] (InvCircOpAt (PlaceOf (Cones (now (list .entry))) k) (now (x .entry)) (now (y .entry)) (now (z .entry))) ⌝ }
 {
     let p = records::place_of(list, k);
-    codes::answer(list_jordan::inv_circ_op_at(p, x, y, z))
+    codes::answer(list_inverse::inv_circ_op_at(p, x, y, z))
 }
 
 #[no_mangle]
@@ -290,7 +304,7 @@ pub extern "C" fn akm_list_lambda_inv_circ_op(
         ≡ Exported [] (LambdaInvCircOpAt (PlaceOf (Cones (now (list .entry))) k) (now (x .entry)) (now (z .entry)) (now (lambda .entry))) ⌝ }
 {
     let p = records::place_of(list, k);
-    codes::answer(list_jordan::lambda_inv_circ_op_at(p, x, z, lambda))
+    codes::answer(list_inverse::lambda_inv_circ_op_at(p, x, z, lambda))
 }
 
 #[no_mangle]
@@ -304,7 +318,7 @@ pub extern "C" fn akm_list_standing(
         ≡ Exported (whole (now (standing .entry)) ∷ []) (StandingAt (PlaceOf (Cones (now (list .entry))) k) (now (z .entry))) ⌝ }
 {
     let p = records::place_of(list, k);
-    codes::stands(list_step::standing_at(p, z), standing)
+    codes::stands(list_standing::standing_at(p, z), standing)
 }
 
 // The step over the whole list, z side and s side.

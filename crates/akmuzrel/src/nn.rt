@@ -2,9 +2,15 @@
 // to numbers that the caller lends. A lent slice is a pointer and a length. Of our own; nothing is ported.
 ghost use mathlib.Core.Path.{_≡_};
 ghost use mathlib.Core.List.{[], _∷_};
-ghost use Rattle.nn_scaling.specs.Scaling.{NnMargins, NnScaledUnitShift, NnUnitInitialization, NnSetIdentityScaling, NnUpdateScaling, NnGetHs};
-ghost use Rattle.nn_products.specs.Products.{NnMulHs, NnDsFromDzOffset, NnMulW, NnMulWinv};
-ghost use Rattle.nn_jordan.specs.Jordan.{NnAffineDs, NnCircOp, NnInvCircOp, NnLambdaInvCircOp};
+ghost use Rattle.nn_units.specs.Units.{NnMargins, NnScaledUnitShift, NnUnitInitialization};
+ghost use Rattle.nn_identity.specs.Identity.{NnSetIdentityScaling};
+ghost use Rattle.nn_scaling.specs.Scaling.{NnUpdateScaling};
+ghost use Rattle.nn_blocks.specs.Block.{NnGetHs};
+ghost use Rattle.nn_mul_hs.specs.Block.{NnMulHs};
+ghost use Rattle.nn_offset.specs.Offset.{NnDsFromDzOffset};
+ghost use Rattle.nn_products.specs.Products.{NnMulW, NnMulWinv};
+ghost use Rattle.nn_jordan.specs.Jordan.{NnAffineDs, NnCircOp};
+ghost use Rattle.nn_inverse.specs.Inverse.{NnInvCircOp, NnLambdaInvCircOp};
 ghost use Rattle.nn_step.specs.Step.{NnStep, NnStepLength};
 ghost use Rattle.symmetric_common.specs.Combined.{NnCombinedDsShift};
 ghost use Rattle.standing.specs.Standing.{NnStands};
@@ -15,14 +21,14 @@ pub extern "C" fn akm_nn_margins(z: &[f64], alpha: &mut f64, beta: &mut f64) -> 
     ensures { λ r. ⌜ export r (real (now (alpha .exit)) ∷ real (now (beta .exit)) ∷ []) []
         ≡ Exported (real (now (alpha .entry)) ∷ real (now (beta .entry)) ∷ []) (NnMargins (now (z .entry))) ⌝ }
 {
-    codes::margins(nn_scaling::nn_margins(z), alpha, beta)
+    codes::margins(nn_units::nn_margins(z), alpha, beta)
 }
 
 #[no_mangle]
 pub extern "C" fn akm_nn_scaled_unit_shift(z: &mut [f64], alpha: f64) -> u8
     ensures { λ r. ⌜ export r [] (now (z .exit) ∷ []) ≡ Exported [] (NnScaledUnitShift (now (z .entry)) alpha) ⌝ }
 {
-    codes::answer(nn_scaling::nn_scaled_unit_shift(z, alpha))
+    codes::answer(nn_units::nn_scaled_unit_shift(z, alpha))
 }
 
 #[no_mangle]
@@ -30,14 +36,14 @@ pub extern "C" fn akm_nn_unit_initialization(z: &mut [f64], s: &mut [f64]) -> u8
     ensures { λ r. ⌜ export r [] (now (z .exit) ∷ now (s .exit) ∷ [])
         ≡ Exported [] (NnUnitInitialization (now (z .entry)) (now (s .entry))) ⌝ }
 {
-    codes::answer(nn_scaling::nn_unit_initialization(z, s))
+    codes::answer(nn_units::nn_unit_initialization(z, s))
 }
 
 #[no_mangle]
 pub extern "C" fn akm_nn_set_identity_scaling(w: &mut [f64]) -> u8
     ensures { λ r. ⌜ export r [] (now (w .exit) ∷ []) ≡ Exported [] (NnSetIdentityScaling (now (w .entry))) ⌝ }
 {
-    codes::answer(nn_scaling::nn_set_identity_scaling(w))
+    codes::answer(nn_identity::nn_set_identity_scaling(w))
 }
 
 #[no_mangle]
@@ -58,14 +64,14 @@ pub extern "C" fn akm_nn_update_scaling(
 pub extern "C" fn akm_nn_get_hs(hs: &mut [f64], w: &[f64]) -> u8
     ensures { λ r. ⌜ export r [] (now (hs .exit) ∷ []) ≡ Exported [] (NnGetHs (now (hs .entry)) (now (w .entry))) ⌝ }
 {
-    codes::answer(nn_scaling::nn_get_hs(hs, w))
+    codes::answer(nn_blocks::nn_get_hs(hs, w))
 }
 
 #[no_mangle]
 pub extern "C" fn akm_nn_mul_hs(y: &mut [f64], x: &[f64], w: &[f64]) -> u8
     ensures { λ r. ⌜ export r [] (now (y .exit) ∷ []) ≡ Exported [] (NnMulHs (now (y .entry)) (now (x .entry)) (now (w .entry))) ⌝ }
 {
-    codes::answer(nn_products::nn_mul_hs(y, x, w))
+    codes::answer(nn_mul_hs::nn_mul_hs(y, x, w))
 }
 
 #[no_mangle]
@@ -80,7 +86,7 @@ pub extern "C" fn akm_nn_ds_from_dz_offset(out: &mut [f64], ds: &[f64], z: &[f64
     ensures { λ r. ⌜ export r [] (now (out .exit) ∷ [])
         ≡ Exported [] (NnDsFromDzOffset (now (out .entry)) (now (ds .entry)) (now (z .entry))) ⌝ }
 {
-    codes::answer(nn_products::nn_ds_from_dz_offset(out, ds, z))
+    codes::answer(nn_offset::nn_ds_from_dz_offset(out, ds, z))
 }
 
 #[no_mangle]
@@ -110,7 +116,7 @@ pub extern "C" fn akm_nn_circ_op(x: &mut [f64], y: &[f64], z: &[f64]) -> u8
 pub extern "C" fn akm_nn_inv_circ_op(x: &mut [f64], y: &[f64], z: &[f64]) -> u8
     ensures { λ r. ⌜ export r [] (now (x .exit) ∷ []) ≡ Exported [] (NnInvCircOp (now (x .entry)) (now (y .entry)) (now (z .entry))) ⌝ }
 {
-    codes::answer(nn_jordan::nn_inv_circ_op(x, y, z))
+    codes::answer(nn_inverse::nn_inv_circ_op(x, y, z))
 }
 
 #[no_mangle]
@@ -118,7 +124,7 @@ pub extern "C" fn akm_nn_lambda_inv_circ_op(x: &mut [f64], z: &[f64], lambda: &[
     ensures { λ r. ⌜ export r [] (now (x .exit) ∷ [])
         ≡ Exported [] (NnLambdaInvCircOp (now (x .entry)) (now (z .entry)) (now (lambda .entry))) ⌝ }
 {
-    codes::answer(nn_jordan::nn_lambda_inv_circ_op(x, z, lambda))
+    codes::answer(nn_inverse::nn_lambda_inv_circ_op(x, z, lambda))
 }
 
 #[no_mangle]

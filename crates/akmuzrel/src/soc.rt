@@ -4,12 +4,17 @@ use answers::Square;
 ghost use mathlib.Core.Path.{_≡_};
 ghost use mathlib.Core.List.{[], _∷_};
 ghost use Rattle.answers.specs.Outcome.{toldSquare};
-ghost use Rattle.soc_residual.specs.Residual.{SocResidual, SocResidualShifted, SqrtSocResidual, SocMargins, SocScaledUnitShift, SocUnitInitialization};
-ghost use Rattle.soc_scaling.specs.Scaling.{SocSetIdentityScaling, Stored, SocUpdateScaling};
-ghost use Rattle.soc_blocks.specs.Block.{SocGetHs, SocSquareHs};
-ghost use Rattle.soc_products.specs.Product.{SocMulW, SocMulWinv, SocMulHs};
+ghost use Rattle.soc_residual.specs.Residual.{SocResidual, SocResidualShifted, SqrtSocResidual};
+ghost use Rattle.soc_units.specs.Units.{SocMargins, SocScaledUnitShift, SocUnitInitialization};
+ghost use Rattle.soc_identity.specs.Identity.{SocSetIdentityScaling};
+ghost use Rattle.soc_scaling.specs.Scaling.{Stored, SocUpdateScaling};
+ghost use Rattle.soc_blocks.specs.Block.{SocGetHs};
+ghost use Rattle.soc_square.specs.Square.{SocSquareHs};
+ghost use Rattle.soc_products.specs.Product.{SocMulW, SocMulWinv};
+ghost use Rattle.soc_mul_hs.specs.Block.{SocMulHs};
 ghost use Rattle.soc_offset.specs.Offset.{SocDsFromDzOffset};
-ghost use Rattle.soc_jordan.specs.Jordan.{SocCircOp, SocAffineDs, SocInvCircOp, SocLambdaInvCircOp};
+ghost use Rattle.soc_jordan.specs.Jordan.{SocCircOp, SocAffineDs};
+ghost use Rattle.soc_inverse.specs.Inverse.{SocInvCircOp, SocLambdaInvCircOp};
 ghost use Rattle.soc_step.specs.Step.{SocStep, SocStepLength};
 ghost use Rattle.symmetric_common.specs.Combined.{SocCombinedDsShift};
 ghost use Rattle.standing.specs.Standing.{SocStands};
@@ -44,14 +49,14 @@ pub extern "C" fn akm_soc_margins(z: &[f64], alpha: &mut f64, beta: &mut f64) ->
     ensures { λ r. ⌜ export r (real (now (alpha .exit)) ∷ real (now (beta .exit)) ∷ []) []
         ≡ Exported (real (now (alpha .entry)) ∷ real (now (beta .entry)) ∷ []) (SocMargins (now (z .entry))) ⌝ }
 {
-    codes::margins(soc_residual::soc_margins(z), alpha, beta)
+    codes::margins(soc_units::soc_margins(z), alpha, beta)
 }
 
 #[no_mangle]
 pub extern "C" fn akm_soc_scaled_unit_shift(z: &mut [f64], alpha: f64) -> u8
     ensures { λ r. ⌜ export r [] (now (z .exit) ∷ []) ≡ Exported [] (SocScaledUnitShift (now (z .entry)) alpha) ⌝ }
 {
-    codes::answer(soc_residual::soc_scaled_unit_shift(z, alpha))
+    codes::answer(soc_units::soc_scaled_unit_shift(z, alpha))
 }
 
 #[no_mangle]
@@ -59,7 +64,7 @@ pub extern "C" fn akm_soc_unit_initialization(z: &mut [f64], s: &mut [f64]) -> u
     ensures { λ r. ⌜ export r [] (now (z .exit) ∷ now (s .exit) ∷ [])
         ≡ Exported [] (SocUnitInitialization (now (z .entry)) (now (s .entry))) ⌝ }
 {
-    codes::answer(soc_residual::soc_unit_initialization(z, s))
+    codes::answer(soc_units::soc_unit_initialization(z, s))
 }
 
 #[no_mangle]
@@ -73,7 +78,7 @@ pub extern "C" fn akm_soc_set_identity_scaling(
     ensures { λ r. ⌜ export r [] (now (w .exit) ∷ now (u .exit) ∷ now (v .exit) ∷ (now (eta .exit) ∷ []) ∷ (now (d .exit) ∷ []) ∷ [])
         ≡ Exported [] (SocSetIdentityScaling (now (w .entry)) (now (u .entry)) (now (v .entry)) (now (eta .entry)) (now (d .entry))) ⌝ }
 {
-    codes::answer(soc_scaling::soc_set_identity_scaling(w, u, v, eta, d))
+    codes::answer(soc_identity::soc_set_identity_scaling(w, u, v, eta, d))
 }
 
 #[no_mangle]
@@ -109,7 +114,7 @@ pub extern "C" fn akm_soc_get_hs(hs: &mut [f64], w: &[f64], eta: &f64, d: &f64) 
 pub extern "C" fn akm_soc_square_hs(w: &[f64], eta: &f64) -> Square
     ensures { λ r. ⌜ toldSquare r ≡ SocSquareHs (now (w .entry)) (now (eta .entry)) ⌝ }
 {
-    soc_blocks::soc_square_hs(w, eta)
+    soc_square::soc_square_hs(w, eta)
 }
 
 #[no_mangle]
@@ -147,7 +152,7 @@ pub extern "C" fn akm_soc_mul_hs(y: &mut [f64], x: &[f64], w: &[f64], eta: &f64)
     ensures { λ r. ⌜ export r [] (now (y .exit) ∷ [])
         ≡ Exported [] (SocMulHs (now (y .entry)) (now (x .entry)) (now (w .entry)) (now (eta .entry))) ⌝ }
 {
-    codes::answer(soc_products::soc_mul_hs(y, x, w, eta))
+    codes::answer(soc_mul_hs::soc_mul_hs(y, x, w, eta))
 }
 
 #[no_mangle]
@@ -183,7 +188,7 @@ pub extern "C" fn akm_soc_affine_ds(ds: &mut [f64], lambda: &[f64]) -> u8
 pub extern "C" fn akm_soc_inv_circ_op(x: &mut [f64], y: &[f64], z: &[f64]) -> u8
     ensures { λ r. ⌜ export r [] (now (x .exit) ∷ []) ≡ Exported [] (SocInvCircOp (now (x .entry)) (now (y .entry)) (now (z .entry))) ⌝ }
 {
-    codes::answer(soc_jordan::soc_inv_circ_op(x, y, z))
+    codes::answer(soc_inverse::soc_inv_circ_op(x, y, z))
 }
 
 #[no_mangle]
@@ -191,7 +196,7 @@ pub extern "C" fn akm_soc_lambda_inv_circ_op(x: &mut [f64], z: &[f64], lambda: &
     ensures { λ r. ⌜ export r [] (now (x .exit) ∷ [])
         ≡ Exported [] (SocLambdaInvCircOp (now (x .entry)) (now (z .entry)) (now (lambda .entry))) ⌝ }
 {
-    codes::answer(soc_jordan::soc_lambda_inv_circ_op(x, z, lambda))
+    codes::answer(soc_inverse::soc_lambda_inv_circ_op(x, z, lambda))
 }
 
 #[no_mangle]

@@ -32,6 +32,10 @@ module _ (p : Place) where
   Own number y = y ! (p .index) ∷ []
   Own block y = OfBlock p y
 
+  -- of a buffer y of one number per cone, the cone's own
+  abbrev pub Its : List Float → Float
+  Its y = Own number y ! 0
+
   -- y with that range replaced, and each of several with theirs
   abbrev pub Back : Use → List Float → List Float → List Float
   Back entries y new = With p y new

@@ -1,3 +1,3 @@
--- `Laws`: a kind's block, and what a call for the square block has where it is not refused. `Unique`: a contract leaves one result.
+-- `Laws`: how long a kind's block is. `Unique`: a contract leaves one result.
 pub mod Laws
 pub mod Unique

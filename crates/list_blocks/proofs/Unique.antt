@@ -3,15 +3,11 @@ use mathlib.Core.Path.{_≡_}
 use mathlib.Core.List.{List}
 use lib.Ieee.{Float}
 use Rattle.answers.specs.declared.Answer.{Answer}
-use Rattle.answers.specs.declared.Square.{Square}
-use Rattle.answers.specs.Outcome.{Contents, told, toldSquare}
-use Rattle.answers.proofs.Unique.{one-answer, one-square}
+use Rattle.answers.specs.Outcome.{Contents, told}
+use Rattle.answers.proofs.Unique.{one-answer}
 use Rattle.conelist.specs.declared.Place.{Place}
-use Rattle.conecalls.specs.Calls.{GetHsAt, SquareHsAt}
+use Rattle.list_blocks.specs.Block.{GetHsAt}
 
 module _ (p : Place) where
   get-hs-at : {r r′ : Answer} {e e′ : Contents} (hs w η d : List Float) → told r e ≡ GetHsAt p hs w η d → told r′ e′ ≡ GetHsAt p hs w η d → (r ≡ r′) × (e ≡ e′)
   get-hs-at hs w η d = one-answer
-
-  square-hs-at : {r r′ : Square} (w η : List Float) → toldSquare r ≡ SquareHsAt p w η → toldSquare r′ ≡ SquareHsAt p w η → r ≡ r′
-  square-hs-at w η = one-square

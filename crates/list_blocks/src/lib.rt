@@ -1,22 +1,16 @@
-// The block Hs of one cone of a list, packed and as a square matrix (document 01, "Second-order rules" and "Nonnegative rules"; source documents
-// 000, lines 217 to 246, and 001, lines 96 to 101), over the cone's place. For each: on the cone's own ranges, and the call.
+// The block Hs of one cone of a list, packed (document 01, "Second-order rules" and "Nonnegative rules"; source documents 000, lines 217 to
+// 246, and 001, lines 96 to 101), over the cone's place: by the cone's kind, on the cone's own ranges, and the call.
 use answers::Answer;
-use answers::Row;
-use answers::Square;
 use conelist::Kind;
 use conelist::Place;
 ghost use mathlib.Core.Path.{_≡_};
-ghost use mathlib.Core.List.{[], _∷_, map};
+ghost use mathlib.Core.List.{[], _∷_};
 ghost use lib.ListN.{length};
 ghost use Rattle.vecmath.specs.Double.{_!_};
-ghost use Rattle.answers.specs.Refusal.{Fit, _⊳_, Unlike};
-ghost use Rattle.answers.specs.Outcome.{told, toldSquare};
-ghost use Rattle.soc_blocks.specs.Block.{SquareHs};
-ghost use Rattle.conelist.specs.Layout.{Dim, LeastDim, BlockDim, Spot, Open, Of, WithBlock};
-ghost use Rattle.conecalls.specs.Kinds.{KindHs, KindNotDense};
-ghost use Rattle.conecalls.specs.Calls.{GetHsAt, SquareHsAt};
-
-// ---- the packed block
+ghost use Rattle.answers.specs.Refusal.{Fit};
+ghost use Rattle.answers.specs.Outcome.{told};
+ghost use Rattle.conelist.specs.Layout.{Dim, LeastDim, BlockDim, Open, Of, WithBlock};
+ghost use Rattle.list_blocks.specs.Block.{KindHs, GetHsAt};
 
 // A nonnegative cone uses no η, d.
 fn kind_hs(kind: Kind, hs: &mut [f64], w: &[f64], eta: f64, d: f64)
@@ -25,7 +19,7 @@ fn kind_hs(kind: Kind, hs: &mut [f64], w: &[f64], eta: f64, d: f64)
     ensures { λ _. ⌜ now (hs .exit) ≡ KindHs kind (now (w .entry)) eta d ⌝ }
 {
     match kind {
-        Kind::Nonnegative(n) => nn_scaling::get_hs(hs, w),
+        Kind::Nonnegative(n) => nn_blocks::get_hs(hs, w),
         Kind::SecondOrder(n) => soc_blocks::get_hs(hs, w, eta, d),
     }
 }
@@ -60,53 +54,4 @@ pub fn get_hs_at(p: Place, hs: &mut [f64], w: &[f64], eta: &[f64], d: &[f64]) ->
     }
     hs_in(p, hs, w, eta, d);
     Answer::Done
-}
-
-// ---- the square block
-
-// 7: a nonnegative cone is never dense.
-fn dense_refusal(kind: Kind) -> u8
-    ensures { λ r. ⌜ r ≡ KindNotDense kind ⌝ }
-{
-    match kind {
-        Kind::Nonnegative(n) => 7,
-        Kind::SecondOrder(n) => answers::dense_refusal(n),
-    }
-}
-
-// The refusals of a call for the square block: 7 ranks before 5. `same` says that each slice has its length.
-fn square_refusal(p: Place, same: bool) -> u8
-    ensures { λ r. ⌜ r ≡ (Spot p ⊳ KindNotDense (p .kind)) ⊳ Unlike same ⌝ }
-{
-    let kind = p.kind;
-    let placed = conelist::spot(p);
-    let dense = dense_refusal(kind);
-    let long = answers::length_refusal(same);
-    answers::first_refusal(answers::first_refusal(placed, dense), long)
-}
-
-fn square_in(p: Place, w: &[f64], eta: &[f64]) -> [Row; 4]
-    requires { ⌜ Open p ((length (now w), p .entries) ∷ (length (now eta), p .count) ∷ []) ⌝ }
-    ensures { λ r. ⌜ map (λ row. row .entries) r ≡ SquareHs (Of p (now (w .entry))) (now (eta .entry) ! (p .index)) ⌝ }
-{
-    let at = p.start;
-    let kind = p.kind;
-    let k = p.index;
-    let end = at + conelist::dim(kind);
-    soc_blocks::square_hs(&w[at..end], eta[k])
-}
-
-pub fn square_hs_at(p: Place, w: &[f64], eta: &[f64]) -> Square
-    ensures { λ r. ⌜ toldSquare r ≡ SquareHsAt p (now (w .entry)) (now (eta .entry)) ⌝ }
-{
-    let entries = p.entries;
-    let count = p.count;
-    let no = square_refusal(p, (w.len() == entries) & (eta.len() == count));
-    if no != 0 {
-        return soc_blocks::no_square(no);
-    }
-    Square {
-        no: 0,
-        rows: square_in(p, w, eta),
-    }
 }

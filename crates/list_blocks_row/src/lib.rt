@@ -1,12 +1,11 @@
-// The block Hs of one cone of a list, packed and as a square matrix (document 01; source documents 000 and 001), over the row of records.
+// The block Hs of one cone of a list, packed (document 01; source documents 000 and 001), over the row of records.
 use answers::Answer;
-use answers::Square;
 use conelist::Cone;
 ghost use mathlib.Core.Path.{_≡_};
 ghost use mathlib.Core.List.{[], _∷_};
-ghost use Rattle.answers.specs.Outcome.{told, toldSquare};
+ghost use Rattle.answers.specs.Outcome.{told};
 ghost use Rattle.conelist.specs.Layout.{PlaceOf};
-ghost use Rattle.conecalls.specs.Calls.{GetHsAt, SquareHsAt};
+ghost use Rattle.list_blocks.specs.Block.{GetHsAt};
 
 pub fn get_hs(list: &[Cone], k: usize, hs: &mut [f64], w: &[f64], eta: &[f64], d: &[f64]) -> Answer
     ensures { λ r. ⌜ told r (now (hs .exit) ∷ [])
@@ -14,11 +13,4 @@ pub fn get_hs(list: &[Cone], k: usize, hs: &mut [f64], w: &[f64], eta: &[f64], d
 {
     let p = conelist::place_of(list, k);
     list_blocks::get_hs_at(p, hs, w, eta, d)
-}
-
-pub fn square_hs(list: &[Cone], k: usize, w: &[f64], eta: &[f64]) -> Square
-    ensures { λ r. ⌜ toldSquare r ≡ SquareHsAt (PlaceOf (now (list .entry)) k) (now (w .entry)) (now (eta .entry)) ⌝ }
-{
-    let p = conelist::place_of(list, k);
-    list_blocks::square_hs_at(p, w, eta)
 }

@@ -12,8 +12,7 @@ ghost use Rattle.answers.specs.Refusal.{Fit};
 ghost use Rattle.answers.specs.Outcome.{told};
 ghost use Rattle.conelist.specs.Layout.{LeastDim, Open, Of};
 ghost use Rattle.conecalls.specs.At.{entries, Backs};
-ghost use Rattle.conecalls.specs.Kinds.{KindCombined};
-ghost use Rattle.conecalls.specs.Calls.{CombinedDsShiftAt};
+ghost use Rattle.list_combined.specs.Combined.{KindCombined, CombinedDsShiftAt};
 
 // A nonnegative cone uses no η.
 fn kind_combined(

@@ -5,7 +5,7 @@ ghost use mathlib.Core.Path.{_≡_};
 ghost use mathlib.Core.List.{[], _∷_};
 ghost use Rattle.answers.specs.Outcome.{told};
 ghost use Rattle.conelist.specs.Layout.{PlaceOf};
-ghost use Rattle.conecalls.specs.Calls.{CombinedDsShiftAt};
+ghost use Rattle.list_combined.specs.Combined.{CombinedDsShiftAt};
 
 pub fn combined_ds_shift(
     list: &[Cone],

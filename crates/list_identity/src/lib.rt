@@ -11,8 +11,7 @@ ghost use Rattle.answers.specs.Refusal.{Fit};
 ghost use Rattle.answers.specs.Outcome.{told};
 ghost use Rattle.conelist.specs.Layout.{LeastDim, Open, Of};
 ghost use Rattle.conecalls.specs.At.{entries, number, Backs};
-ghost use Rattle.conecalls.specs.Kinds.{KindIdentity};
-ghost use Rattle.conecalls.specs.Calls.{SetIdentityScalingAt};
+ghost use Rattle.list_identity.specs.Identity.{KindIdentity, SetIdentityScalingAt};
 
 // A nonnegative cone uses no u, v, η, d: they stay.
 fn kind_identity(
@@ -28,8 +27,8 @@ fn kind_identity(
         ≡ KindIdentity kind (now (w .entry)) (now (u .entry)) (now (v .entry)) (now (eta .entry)) (now (d .entry)) ⌝ }
 {
     match kind {
-        Kind::Nonnegative(n) => nn_scaling::set_identity_scaling(w),
-        Kind::SecondOrder(n) => soc_scaling::set_identity_scaling(w, u, v, eta, d),
+        Kind::Nonnegative(n) => nn_identity::set_identity_scaling(w),
+        Kind::SecondOrder(n) => soc_identity::set_identity_scaling(w, u, v, eta, d),
     }
 }
 

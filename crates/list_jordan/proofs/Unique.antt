@@ -6,17 +6,11 @@ use Rattle.answers.specs.declared.Answer.{Answer}
 use Rattle.answers.specs.Outcome.{Contents, told}
 use Rattle.answers.proofs.Unique.{one-answer}
 use Rattle.conelist.specs.declared.Place.{Place}
-use Rattle.conecalls.specs.Calls.{CircOpAt, InvCircOpAt, LambdaInvCircOpAt, AffineDsAt}
+use Rattle.list_jordan.specs.Jordan.{CircOpAt, AffineDsAt}
 
 module _ (p : Place) {r r′ : Answer} {e e′ : Contents} where
   pub circ-op-at : (x y z : List Float) → told r e ≡ CircOpAt p x y z → told r′ e′ ≡ CircOpAt p x y z → (r ≡ r′) × (e ≡ e′)
   circ-op-at x y z = one-answer
-
-  pub inv-circ-op-at : (x y z : List Float) → told r e ≡ InvCircOpAt p x y z → told r′ e′ ≡ InvCircOpAt p x y z → (r ≡ r′) × (e ≡ e′)
-  inv-circ-op-at x y z = one-answer
-
-  pub lambda-inv-circ-op-at : (x z lambda : List Float) → told r e ≡ LambdaInvCircOpAt p x z lambda → told r′ e′ ≡ LambdaInvCircOpAt p x z lambda → (r ≡ r′) × (e ≡ e′)
-  lambda-inv-circ-op-at x z lambda = one-answer
 
   pub affine-ds-at : (ds lambda : List Float) → told r e ≡ AffineDsAt p ds lambda → told r′ e′ ≡ AffineDsAt p ds lambda → (r ≡ r′) × (e ≡ e′)
   affine-ds-at ds lambda = one-answer

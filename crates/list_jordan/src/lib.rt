@@ -1,6 +1,6 @@
-// The Jordan product, its inverse, the inverse product by lambda and affine_ds of one cone of a list (document 01, "Second-order rules" and
-// "Nonnegative rules"; source documents 000, lines 258 to 260, 325 to 327 and 347 to 382, and 001, lines 110 to 115, 177 to 179 and 206 to 235),
-// over the cone's place. For each: by the cone's kind, on the cone's own ranges, and the call.
+// The Jordan product and affine_ds of one cone of a list (document 01, "Second-order rules" and "Nonnegative rules"; source documents 000,
+// lines 258 to 260, 347 to 349 and 360 to 367, and 001, lines 110 to 115, 206 to 208 and 218 to 225), over the cone's place. For each: by the cone's kind, on the
+// cone's own ranges, and the call.
 use answers::Answer;
 use conelist::Kind;
 use conelist::Place;
@@ -10,8 +10,7 @@ ghost use lib.ListN.{length};
 ghost use Rattle.answers.specs.Refusal.{Fit};
 ghost use Rattle.answers.specs.Outcome.{told};
 ghost use Rattle.conelist.specs.Layout.{LeastDim, Open, Of, With};
-ghost use Rattle.conecalls.specs.Kinds.{KindCirc, KindInvCirc, KindAffineDs};
-ghost use Rattle.conecalls.specs.Calls.{CircOpAt, InvCircOpAt, LambdaInvCircOpAt, AffineDsAt};
+ghost use Rattle.list_jordan.specs.Jordan.{KindCirc, KindAffineDs, CircOpAt, AffineDsAt};
 
 // ---- the product
 
@@ -46,56 +45,6 @@ pub fn circ_op_at(p: Place, x: &mut [f64], y: &[f64], z: &[f64]) -> Answer
         return Answer::Refused(no);
     }
     circ_op_in(p, x, y, z);
-    Answer::Done
-}
-
-// ---- its inverse
-
-fn kind_inv_circ(kind: Kind, x: &mut [f64], y: &[f64], z: &[f64])
-    requires { ⌜ Fit (LeastDim kind) (length (now x)) (length (now y) ∷ length (now z) ∷ []) ⌝ }
-    ensures { λ _. ⌜ now (x .exit) ≡ KindInvCirc kind (now (y .entry)) (now (z .entry)) ⌝ }
-{
-    match kind {
-        Kind::Nonnegative(n) => nn_jordan::inv_circ_op(x, y, z),
-        Kind::SecondOrder(n) => soc_jordan::inv_circ_op(x, y, z),
-    }
-}
-
-fn inv_circ_op_in(p: Place, x: &mut [f64], y: &[f64], z: &[f64])
-    requires { ⌜ Open p ((length (now x), p .entries) ∷ (length (now y), p .entries) ∷ (length (now z), p .entries) ∷ []) ⌝ }
-    ensures { λ _. ⌜ now (x .exit) ≡ With p (now (x .entry)) (KindInvCirc (p .kind) (Of p (now (y .entry))) (Of p (now (z .entry)))) ⌝ }
-{
-    let at = p.start;
-    let kind = p.kind;
-    let end = at + conelist::dim(kind);
-    kind_inv_circ(kind, &mut x[at..end], &y[at..end], &z[at..end]);
-}
-
-// x = y \ z
-pub fn inv_circ_op_at(p: Place, x: &mut [f64], y: &[f64], z: &[f64]) -> Answer
-    ensures { λ r. ⌜ told r (now (x .exit) ∷ []) ≡ InvCircOpAt p (now (x .entry)) (now (y .entry)) (now (z .entry)) ⌝ }
-{
-    let entries = p.entries;
-    let same = (x.len() == entries) & (y.len() == entries) & (z.len() == entries);
-    let no = conelist::refusal(p, same);
-    if no != 0 {
-        return Answer::Refused(no);
-    }
-    inv_circ_op_in(p, x, y, z);
-    Answer::Done
-}
-
-// x = lambda \ z
-pub fn lambda_inv_circ_op_at(p: Place, x: &mut [f64], z: &[f64], lambda: &[f64]) -> Answer
-    ensures { λ r. ⌜ told r (now (x .exit) ∷ []) ≡ LambdaInvCircOpAt p (now (x .entry)) (now (z .entry)) (now (lambda .entry)) ⌝ }
-{
-    let entries = p.entries;
-    let same = (x.len() == entries) & (z.len() == entries) & (lambda.len() == entries);
-    let no = conelist::refusal(p, same);
-    if no != 0 {
-        return Answer::Refused(no);
-    }
-    inv_circ_op_in(p, x, lambda, z);
     Answer::Done
 }
 

@@ -1,39 +1,17 @@
-// The Jordan product, its inverse, the inverse product by lambda and affine_ds of one cone of a list (document 01; source documents 000 and 001),
-// over the row of records.
+// The Jordan product and affine_ds of one cone of a list (document 01; source documents 000 and 001), over the row of records.
 use answers::Answer;
 use conelist::Cone;
 ghost use mathlib.Core.Path.{_≡_};
 ghost use mathlib.Core.List.{[], _∷_};
 ghost use Rattle.answers.specs.Outcome.{told};
 ghost use Rattle.conelist.specs.Layout.{PlaceOf};
-ghost use Rattle.conecalls.specs.Calls.{CircOpAt, InvCircOpAt, LambdaInvCircOpAt, AffineDsAt};
+ghost use Rattle.list_jordan.specs.Jordan.{CircOpAt, AffineDsAt};
 
 pub fn circ_op(list: &[Cone], k: usize, x: &mut [f64], y: &[f64], z: &[f64]) -> Answer
     ensures { λ r. ⌜ told r (now (x .exit) ∷ []) ≡ CircOpAt (PlaceOf (now (list .entry)) k) (now (x .entry)) (now (y .entry)) (now (z .entry)) ⌝ }
 {
     let p = conelist::place_of(list, k);
     list_jordan::circ_op_at(p, x, y, z)
-}
-
-pub fn inv_circ_op(list: &[Cone], k: usize, x: &mut [f64], y: &[f64], z: &[f64]) -> Answer
-    ensures { λ r. ⌜ told r (now (x .exit) ∷ []) ≡ InvCircOpAt (PlaceOf (now (list .entry)) k) (now (x .entry)) (now (y .entry)) (now (z .entry)) ⌝ }
-{
-    let p = conelist::place_of(list, k);
-    list_jordan::inv_circ_op_at(p, x, y, z)
-}
-
-pub fn lambda_inv_circ_op(
-    list: &[Cone],
-    k: usize,
-    x: &mut [f64],
-    z: &[f64],
-    lambda: &[f64],
-) -> Answer
-    ensures { λ r. ⌜ told r (now (x .exit) ∷ [])
-        ≡ LambdaInvCircOpAt (PlaceOf (now (list .entry)) k) (now (x .entry)) (now (z .entry)) (now (lambda .entry)) ⌝ }
-{
-    let p = conelist::place_of(list, k);
-    list_jordan::lambda_inv_circ_op_at(p, x, z, lambda)
 }
 
 pub fn affine_ds(list: &[Cone], k: usize, ds: &mut [f64], lambda: &[f64]) -> Answer

@@ -10,16 +10,15 @@ ghost use Rattle.vecmath.specs.Double.{_!_};
 ghost use Rattle.answers.specs.Refusal.{Fit};
 ghost use Rattle.answers.specs.Outcome.{told};
 ghost use Rattle.conelist.specs.Layout.{LeastDim, Open, Of, With};
-ghost use Rattle.conecalls.specs.Kinds.{KindMulHs};
-ghost use Rattle.conecalls.specs.Calls.{MulHsAt};
+ghost use Rattle.list_mul_hs.specs.Block.{KindMulHs, MulHsAt};
 
 fn kind_mul_hs(kind: Kind, y: &mut [f64], x: &[f64], w: &[f64], eta: f64)
     requires { ⌜ Fit (LeastDim kind) (length (now y)) (length (now x) ∷ length (now w) ∷ []) ⌝ }
     ensures { λ _. ⌜ now (y .exit) ≡ KindMulHs kind (now (x .entry)) (now (w .entry)) eta ⌝ }
 {
     match kind {
-        Kind::Nonnegative(n) => nn_products::mul_hs(y, x, w),
-        Kind::SecondOrder(n) => soc_products::mul_hs(y, x, w, eta),
+        Kind::Nonnegative(n) => nn_mul_hs::mul_hs(y, x, w),
+        Kind::SecondOrder(n) => soc_mul_hs::mul_hs(y, x, w, eta),
     }
 }
 

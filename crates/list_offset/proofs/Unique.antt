@@ -6,7 +6,7 @@ use Rattle.answers.specs.declared.Answer.{Answer}
 use Rattle.answers.specs.Outcome.{Contents, told}
 use Rattle.answers.proofs.Unique.{one-answer}
 use Rattle.conelist.specs.declared.Place.{Place}
-use Rattle.conecalls.specs.Calls.{DsFromDzOffsetAt}
+use Rattle.list_offset.specs.Offset.{DsFromDzOffsetAt}
 
 pub ds-from-dz-offset-at : (p : Place) {r r′ : Answer} {e e′ : Contents} (out ds z w lambda η : List Float) → told r e ≡ DsFromDzOffsetAt p out ds z w lambda η → told r′ e′ ≡ DsFromDzOffsetAt p out ds z w lambda η → (r ≡ r′) × (e ≡ e′)
 ds-from-dz-offset-at p out ds z w lambda η = one-answer

@@ -10,8 +10,7 @@ ghost use Rattle.vecmath.specs.Double.{_!_};
 ghost use Rattle.answers.specs.Refusal.{Fit};
 ghost use Rattle.answers.specs.Outcome.{told};
 ghost use Rattle.conelist.specs.Layout.{LeastDim, Open, Of, With};
-ghost use Rattle.conecalls.specs.Kinds.{KindOffset};
-ghost use Rattle.conecalls.specs.Calls.{DsFromDzOffsetAt};
+ghost use Rattle.list_offset.specs.Offset.{KindOffset, DsFromDzOffsetAt};
 
 fn kind_offset(
     kind: Kind,
@@ -26,7 +25,7 @@ fn kind_offset(
     ensures { λ _. ⌜ now (out .exit) ≡ KindOffset kind (now (ds .entry)) (now (z .entry)) (now (w .entry)) (now (lambda .entry)) eta ⌝ }
 {
     match kind {
-        Kind::Nonnegative(n) => nn_products::ds_from_dz_offset(out, ds, z),
+        Kind::Nonnegative(n) => nn_offset::ds_from_dz_offset(out, ds, z),
         Kind::SecondOrder(n) => soc_offset::ds_from_dz_offset(out, ds, z, w, lambda, eta),
     }
 }

@@ -5,7 +5,7 @@ ghost use mathlib.Core.Path.{_≡_};
 ghost use mathlib.Core.List.{[], _∷_};
 ghost use Rattle.answers.specs.Outcome.{told};
 ghost use Rattle.conelist.specs.Layout.{PlaceOf};
-ghost use Rattle.conecalls.specs.Calls.{DsFromDzOffsetAt};
+ghost use Rattle.list_offset.specs.Offset.{DsFromDzOffsetAt};
 
 pub fn ds_from_dz_offset(
     list: &[Cone],

@@ -6,11 +6,8 @@ use Rattle.answers.specs.declared.Answer.{Answer}
 use Rattle.answers.specs.Outcome.{Contents, told}
 use Rattle.answers.proofs.Unique.{one-answer}
 use Rattle.conelist.specs.declared.Place.{Place}
-use Rattle.conecalls.specs.Calls.{MulWAt, MulWinvAt}
+use Rattle.list_products.specs.Product.{MulWAt}
 
 module _ (p : Place) {r r′ : Answer} {e e′ : Contents} where
   pub mul-w-at : (y x : List Float) (α β : Float) (w η : List Float) → told r e ≡ MulWAt p y x α β w η → told r′ e′ ≡ MulWAt p y x α β w η → (r ≡ r′) × (e ≡ e′)
   mul-w-at y x α β w η = one-answer
-
-  pub mul-winv-at : (y x : List Float) (α β : Float) (w η : List Float) → told r e ≡ MulWinvAt p y x α β w η → told r′ e′ ≡ MulWinvAt p y x α β w η → (r ≡ r′) × (e ≡ e′)
-  mul-winv-at y x α β w η = one-answer

@@ -1,11 +1,12 @@
-// Products with W, its inverse and Hs of one cone of a list (document 01; source documents 000 and 001), over the row of records.
+// Products with W and its inverse of one cone of a list (document 01; source documents 000 and 001), over the row of records.
 use answers::Answer;
 use conelist::Cone;
 ghost use mathlib.Core.Path.{_≡_};
 ghost use mathlib.Core.List.{[], _∷_};
 ghost use Rattle.answers.specs.Outcome.{told};
 ghost use Rattle.conelist.specs.Layout.{PlaceOf};
-ghost use Rattle.conecalls.specs.Calls.{MulWAt, MulWinvAt, MulHsAt};
+ghost use Rattle.list_products.specs.Product.{MulWAt};
+ghost use Rattle.list_mul_winv.specs.Product.{MulWinvAt};
 
 pub fn mul_w(
     list: &[Cone],
@@ -38,13 +39,5 @@ pub fn mul_winv(
         ≡ MulWinvAt (PlaceOf (now (list .entry)) k) (now (y .entry)) (now (x .entry)) alpha beta (now (w .entry)) (now (eta .entry)) ⌝ }
 {
     let p = conelist::place_of(list, k);
-    list_products::mul_winv_at(p, y, x, alpha, beta, w, eta)
-}
-
-pub fn mul_hs(list: &[Cone], k: usize, y: &mut [f64], x: &[f64], w: &[f64], eta: &[f64]) -> Answer
-    ensures { λ r. ⌜ told r (now (y .exit) ∷ [])
-        ≡ MulHsAt (PlaceOf (now (list .entry)) k) (now (y .entry)) (now (x .entry)) (now (w .entry)) (now (eta .entry)) ⌝ }
-{
-    let p = conelist::place_of(list, k);
-    list_mul_hs::mul_hs_at(p, y, x, w, eta)
+    list_mul_winv::mul_winv_at(p, y, x, alpha, beta, w, eta)
 }

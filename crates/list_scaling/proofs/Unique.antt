@@ -6,7 +6,7 @@ use Rattle.answers.specs.declared.Scaling.{Scaling}
 use Rattle.answers.specs.Outcome.{Contents, toldScaling}
 use Rattle.answers.proofs.Unique.{one-scaling}
 use Rattle.conelist.specs.declared.Place.{Place}
-use Rattle.conecalls.specs.Calls.{UpdateScalingAt}
+use Rattle.list_scaling.specs.Scaling.{UpdateScalingAt}
 
 update-scaling-at : (p : Place) {r r′ : Scaling} {e e′ : Contents} (s z w lambda u v η d : List Float) → toldScaling r e ≡ UpdateScalingAt p s z w lambda u v η d → toldScaling r′ e′ ≡ UpdateScalingAt p s z w lambda u v η d → (r ≡ r′) × (e ≡ e′)
 update-scaling-at p s z w lambda u v η d = one-scaling

@@ -12,8 +12,7 @@ ghost use Rattle.answers.specs.Outcome.{truth, toldScaling};
 ghost use Rattle.soc_scaling.specs.Scaling.{Stored};
 ghost use Rattle.conelist.specs.Layout.{LeastDim, Open, Of};
 ghost use Rattle.conecalls.specs.At.{entries, number, DoesAt};
-ghost use Rattle.conecalls.specs.Kinds.{KindScaling};
-ghost use Rattle.conecalls.specs.Calls.{UpdateScalingAt};
+ghost use Rattle.list_scaling.specs.Scaling.{KindScaling, UpdateScalingAt};
 
 // A nonnegative cone uses no u, v, η, d: they stay.
 fn kind_scaling(

@@ -1,29 +1,11 @@
-// Identity scaling and `update_scaling` of one cone of a list (document 01; source documents 000 and 001), over the row of records.
-use answers::Answer;
+// `update_scaling` of one cone of a list (document 01; source documents 000 and 001), over the row of records.
 use answers::Scaling;
 use conelist::Cone;
 ghost use mathlib.Core.Path.{_≡_};
 ghost use mathlib.Core.List.{[], _∷_};
-ghost use Rattle.answers.specs.Outcome.{told, toldScaling};
+ghost use Rattle.answers.specs.Outcome.{toldScaling};
 ghost use Rattle.conelist.specs.Layout.{PlaceOf};
-ghost use Rattle.conecalls.specs.Calls.{SetIdentityScalingAt, UpdateScalingAt};
-
-pub fn set_identity_scaling(
-    list: &[Cone],
-    k: usize,
-    w: &mut [f64],
-    u: &mut [f64],
-    v: &mut [f64],
-    eta: &mut [f64],
-    d: &mut [f64],
-) -> Answer
-    ensures { λ r. ⌜ told r (now (w .exit) ∷ now (u .exit) ∷ now (v .exit) ∷ now (eta .exit) ∷ now (d .exit) ∷ [])
-        ≡ SetIdentityScalingAt (PlaceOf (now (list .entry)) k) (now (w .entry)) (now (u .entry)) (now (v .entry)) (now (eta .entry))
-        (now (d .entry)) ⌝ }
-{
-    let p = conelist::place_of(list, k);
-    list_identity::set_identity_scaling_at(p, w, u, v, eta, d)
-}
+ghost use Rattle.list_scaling.specs.Scaling.{UpdateScalingAt};
 
 pub fn update_scaling(
     list: &[Cone],

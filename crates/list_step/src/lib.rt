@@ -1,8 +1,5 @@
-// The step lengths and the standing of one cone of a list (document 01, "Second-order rules", "Nonnegative rules" and "Standing"; source documents
-// 000, lines 289 to 304 and 421 to 496, and 001, step_length), over the cone's place. For each: by the cone's kind, on the cone's own ranges, and
-// the call.
-use answers::Standing;
-use answers::Stands;
+// The step lengths of one cone of a list (document 01, "Second-order rules" and "Nonnegative rules"; source documents 000, lines 289 to 304 and
+// 421 to 496, and 001, step_length), over the cone's place: by the cone's kind, on the cone's own ranges, and the call.
 use answers::StepPair;
 use answers::Steps;
 use conelist::Kind;
@@ -11,12 +8,9 @@ ghost use mathlib.Core.Path.{_≡_};
 ghost use mathlib.Core.List.{[], _∷_};
 ghost use lib.ListN.{length};
 ghost use Rattle.answers.specs.Refusal.{_⊳_, Unlike, BadLimit, Fit};
-ghost use Rattle.answers.specs.Outcome.{lengths, toldSteps, toldStands};
+ghost use Rattle.answers.specs.Outcome.{lengths, toldSteps};
 ghost use Rattle.conelist.specs.Layout.{LeastDim, Spot, Open, Of};
-ghost use Rattle.conecalls.specs.Kinds.{KindStep, KindStanding};
-ghost use Rattle.conecalls.specs.Calls.{StepLengthAt, StandingAt};
-
-// ---- the step lengths, z side and s side
+ghost use Rattle.list_step.specs.Step.{KindStep, StepLengthAt};
 
 pub fn kind_step_length(
     kind: Kind,
@@ -74,37 +68,4 @@ pub fn step_length_at(p: Place, dz: &[f64], ds: &[f64], z: &[f64], s: &[f64], li
         return Steps::Refused(no);
     }
     Steps::Lengths(step_length_in(p, dz, ds, z, s, limit))
-}
-
-// ---- the standing
-
-fn kind_standing(kind: Kind, z: &[f64]) -> Standing
-    requires { ⌜ Fit (LeastDim kind) (length (now z)) [] ⌝ }
-    ensures { λ r. ⌜ r ≡ KindStanding kind (now (z .entry)) ⌝ }
-{
-    match kind {
-        Kind::Nonnegative(n) => standing::nonnegative(z),
-        Kind::SecondOrder(n) => standing::second_order(z),
-    }
-}
-
-fn standing_in(p: Place, z: &[f64]) -> Standing
-    requires { ⌜ Open p ((length (now z), p .entries) ∷ []) ⌝ }
-    ensures { λ r. ⌜ r ≡ KindStanding (p .kind) (Of p (now (z .entry))) ⌝ }
-{
-    let at = p.start;
-    let kind = p.kind;
-    let end = at + conelist::dim(kind);
-    kind_standing(kind, &z[at..end])
-}
-
-pub fn standing_at(p: Place, z: &[f64]) -> Stands
-    ensures { λ r. ⌜ toldStands r ≡ StandingAt p (now (z .entry)) ⌝ }
-{
-    let entries = p.entries;
-    let no = conelist::refusal(p, z.len() == entries);
-    if no != 0 {
-        return Stands::Refused(no);
-    }
-    Stands::As(standing_in(p, z))
 }

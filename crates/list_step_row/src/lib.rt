@@ -1,11 +1,10 @@
-// The step lengths and the standing of one cone of a list (document 01; source documents 000 and 001), over the row of records.
-use answers::Stands;
+// The step lengths of one cone of a list (document 01; source documents 000 and 001), over the row of records.
 use answers::Steps;
 use conelist::Cone;
 ghost use mathlib.Core.Path.{_≡_};
-ghost use Rattle.answers.specs.Outcome.{toldSteps, toldStands};
+ghost use Rattle.answers.specs.Outcome.{toldSteps};
 ghost use Rattle.conelist.specs.Layout.{PlaceOf};
-ghost use Rattle.conecalls.specs.Calls.{StepLengthAt, StandingAt};
+ghost use Rattle.list_step.specs.Step.{StepLengthAt};
 
 pub fn step_length(
     list: &[Cone],
@@ -20,11 +19,4 @@ pub fn step_length(
 {
     let p = conelist::place_of(list, k);
     list_step::step_length_at(p, dz, ds, z, s, limit)
-}
-
-pub fn standing(list: &[Cone], k: usize, z: &[f64]) -> Stands
-    ensures { λ r. ⌜ toldStands r ≡ StandingAt (PlaceOf (now (list .entry)) k) (now (z .entry)) ⌝ }
-{
-    let p = conelist::place_of(list, k);
-    list_step::standing_at(p, z)
 }

@@ -3,16 +3,12 @@ use mathlib.Core.Path.{_≡_}
 use mathlib.Core.List.{List}
 use lib.Ieee.{Float}
 use Rattle.answers.specs.declared.Answer.{Answer}
-use Rattle.answers.specs.declared.Margins.{Margins}
-use Rattle.answers.specs.Outcome.{Contents, told, toldMargins}
-use Rattle.answers.proofs.Unique.{one-answer, one-margins}
+use Rattle.answers.specs.Outcome.{Contents, told}
+use Rattle.answers.proofs.Unique.{one-answer}
 use Rattle.conelist.specs.declared.Place.{Place}
-use Rattle.conecalls.specs.Calls.{MarginsAt, ScaledUnitShiftAt, UnitInitializationAt}
+use Rattle.list_units.specs.Units.{ScaledUnitShiftAt, UnitInitializationAt}
 
 module _ (p : Place) where
-  pub margins-at : {r r′ : Margins} (z : List Float) → toldMargins r ≡ MarginsAt p z → toldMargins r′ ≡ MarginsAt p z → r ≡ r′
-  margins-at z = one-margins
-
   module _ {r r′ : Answer} {e e′ : Contents} where
     pub scaled-unit-shift-at : (z : List Float) (α : Float) → told r e ≡ ScaledUnitShiftAt p z α → told r′ e′ ≡ ScaledUnitShiftAt p z α → (r ≡ r′) × (e ≡ e′)
     scaled-unit-shift-at z α = one-answer

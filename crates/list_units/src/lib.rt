@@ -1,53 +1,15 @@
-// Margins, unit shift and unit initialisation of one cone of a list (document 01, "Second-order rules" and "Nonnegative rules"; source documents
-// 000, lines 104 to 119, and 001, lines 58 to 71), over the cone's place. For each: by the cone's kind, on the cone's own ranges, and the call.
+// Unit shift and unit initialisation of one cone of a list (document 01, "Second-order rules" and "Nonnegative rules"; source documents 000,
+// lines 110 to 119, and 001, lines 64 to 71), over the cone's place. For each: by the cone's kind, on the cone's own ranges, and the call.
 use answers::Answer;
-use answers::Margins;
 use conelist::Kind;
 use conelist::Place;
 ghost use mathlib.Core.Path.{_≡_};
 ghost use mathlib.Core.List.{[], _∷_};
 ghost use lib.ListN.{length};
 ghost use Rattle.answers.specs.Refusal.{Fit};
-ghost use Rattle.answers.specs.Outcome.{gives, ofMargins, told, toldMargins};
+ghost use Rattle.answers.specs.Outcome.{told};
 ghost use Rattle.conelist.specs.Layout.{LeastDim, Open, Of, With};
-ghost use Rattle.conecalls.specs.Kinds.{KindMargins, KindUnitShift, KindUnit};
-ghost use Rattle.conecalls.specs.Calls.{MarginsAt, ScaledUnitShiftAt, UnitInitializationAt};
-
-// ---- margins
-
-fn kind_margins(kind: Kind, z: &[f64]) -> Margins
-    requires { ⌜ Fit (LeastDim kind) (length (now z)) [] ⌝ }
-    ensures { λ r. ⌜ ofMargins r ≡ gives (KindMargins kind (now (z .entry))) ⌝ }
-{
-    match kind {
-        Kind::Nonnegative(n) => nn_scaling::margins(z),
-        Kind::SecondOrder(n) => {
-            let alpha = soc_residual::margin(z);
-            Margins::Are(alpha, extrema::greatest(0.0, alpha))
-        }
-    }
-}
-
-fn margins_in(p: Place, z: &[f64]) -> Margins
-    requires { ⌜ Open p ((length (now z), p .entries) ∷ []) ⌝ }
-    ensures { λ r. ⌜ ofMargins r ≡ gives (KindMargins (p .kind) (Of p (now (z .entry)))) ⌝ }
-{
-    let at = p.start;
-    let kind = p.kind;
-    let end = at + conelist::dim(kind);
-    kind_margins(kind, &z[at..end])
-}
-
-pub fn margins_at(p: Place, z: &[f64]) -> Margins
-    ensures { λ r. ⌜ toldMargins r ≡ MarginsAt p (now (z .entry)) ⌝ }
-{
-    let entries = p.entries;
-    let no = conelist::refusal(p, z.len() == entries);
-    if no != 0 {
-        return Margins::Refused(no);
-    }
-    margins_in(p, z)
-}
+ghost use Rattle.list_units.specs.Units.{KindUnitShift, KindUnit, ScaledUnitShiftAt, UnitInitializationAt};
 
 // ---- unit shift
 
@@ -56,8 +18,8 @@ fn kind_unit_shift(kind: Kind, z: &mut [f64], alpha: f64)
     ensures { λ _. ⌜ now (z .exit) ≡ KindUnitShift kind (now (z .entry)) alpha ⌝ }
 {
     match kind {
-        Kind::Nonnegative(n) => nn_scaling::scaled_unit_shift(z, alpha),
-        Kind::SecondOrder(n) => soc_residual::scaled_unit_shift(z, alpha),
+        Kind::Nonnegative(n) => nn_units::scaled_unit_shift(z, alpha),
+        Kind::SecondOrder(n) => soc_units::scaled_unit_shift(z, alpha),
     }
 }
 
@@ -91,7 +53,7 @@ fn kind_unit(kind: Kind, z: &mut [f64])
 {
     match kind {
         Kind::Nonnegative(n) => vecmath::fill(z, 1.0),
-        Kind::SecondOrder(n) => soc_residual::unit_vector(z),
+        Kind::SecondOrder(n) => soc_units::unit_vector(z),
     }
 }
 

@@ -1,19 +1,11 @@
-// Margins, unit shift and unit initialisation of one cone of a list (document 01; source documents 000 and 001), over the row of records.
+// Unit shift and unit initialisation of one cone of a list (document 01; source documents 000 and 001), over the row of records.
 use answers::Answer;
-use answers::Margins;
 use conelist::Cone;
 ghost use mathlib.Core.Path.{_≡_};
 ghost use mathlib.Core.List.{[], _∷_};
-ghost use Rattle.answers.specs.Outcome.{told, toldMargins};
+ghost use Rattle.answers.specs.Outcome.{told};
 ghost use Rattle.conelist.specs.Layout.{PlaceOf};
-ghost use Rattle.conecalls.specs.Calls.{MarginsAt, ScaledUnitShiftAt, UnitInitializationAt};
-
-pub fn margins(list: &[Cone], k: usize, z: &[f64]) -> Margins
-    ensures { λ r. ⌜ toldMargins r ≡ MarginsAt (PlaceOf (now (list .entry)) k) (now (z .entry)) ⌝ }
-{
-    let p = conelist::place_of(list, k);
-    list_units::margins_at(p, z)
-}
+ghost use Rattle.list_units.specs.Units.{ScaledUnitShiftAt, UnitInitializationAt};
 
 pub fn scaled_unit_shift(list: &[Cone], k: usize, z: &mut [f64], alpha: f64) -> Answer
     ensures { λ r. ⌜ told r (now (z .exit) ∷ []) ≡ ScaledUnitShiftAt (PlaceOf (now (list .entry)) k) (now (z .entry)) alpha ⌝ }

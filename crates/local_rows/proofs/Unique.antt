@@ -10,7 +10,7 @@ use Rattle.answers.proofs.Unique.{one-pair}
 use Rattle.conelist.specs.declared.Cone.{Cone}
 use Rattle.conelist.specs.declared.Place.{Place}
 use Rattle.conelist.specs.Layout.{PlaceOf}
-use Rattle.conecalls.specs.List.{ListStepLength}
+use Rattle.whole_step.specs.List.{ListStepLength}
 
 pub place-in : {r r′ : Place} (cs : List Cone) (c k : ℕ) → r ≡ PlaceOf (take c cs) k → r′ ≡ PlaceOf (take c cs) k → r ≡ r′
 place-in cs c k p q = p ∙ sym q

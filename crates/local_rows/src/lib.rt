@@ -8,7 +8,7 @@ ghost use Prim.Native.Nat.{_≤_};
 ghost use lib.ListN.{take};
 ghost use Rattle.answers.specs.Outcome.{toldSteps};
 ghost use Rattle.conelist.specs.Layout.{PlaceOf};
-ghost use Rattle.conecalls.specs.List.{ListStepLength};
+ghost use Rattle.whole_step.specs.List.{ListStepLength};
 ghost use Rattle.local_rows.specs.Front.{Held};
 
 // How many cones that is: all, where more are asked for than the array holds.

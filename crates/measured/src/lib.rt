@@ -61,6 +61,6 @@ pub extern "C" fn measured_axpby(y: &mut [f64], a: f64, x: &[f64], b: f64) -> bo
     if x.len() != y.len() {
         return false;
     }
-    vecmath::axpby(y, a, x, b);
+    vecaxpby::axpby(y, a, x, b);
     true
 }

@@ -5,7 +5,7 @@ use lib.Ieee.{Float}
 use Rattle.answers.specs.declared.Answer.{Answer}
 use Rattle.answers.specs.Outcome.{Contents, told}
 use Rattle.answers.proofs.Unique.{one-answer}
-use Rattle.nn_jordan.specs.Jordan.{NnAffineDs, NnCircOp, NnInvCircOp, NnLambdaInvCircOp}
+use Rattle.nn_jordan.specs.Jordan.{NnAffineDs, NnCircOp}
 
 module _ {r r′ : Answer} {e e′ : Contents} where
   nn-affine-ds : (ds lambda : List Float) → told r e ≡ NnAffineDs ds lambda → told r′ e′ ≡ NnAffineDs ds lambda → (r ≡ r′) × (e ≡ e′)
@@ -13,9 +13,3 @@ module _ {r r′ : Answer} {e e′ : Contents} where
 
   nn-circ-op : (x y z : List Float) → told r e ≡ NnCircOp x y z → told r′ e′ ≡ NnCircOp x y z → (r ≡ r′) × (e ≡ e′)
   nn-circ-op x y z = one-answer
-
-  nn-inv-circ-op : (x y z : List Float) → told r e ≡ NnInvCircOp x y z → told r′ e′ ≡ NnInvCircOp x y z → (r ≡ r′) × (e ≡ e′)
-  nn-inv-circ-op x y z = one-answer
-
-  nn-lambda-inv-circ-op : (x z lambda : List Float) → told r e ≡ NnLambdaInvCircOp x z lambda → told r′ e′ ≡ NnLambdaInvCircOp x z lambda → (r ≡ r′) × (e ≡ e′)
-  nn-lambda-inv-circ-op x z lambda = one-answer

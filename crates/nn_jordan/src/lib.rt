@@ -1,12 +1,12 @@
-// The nonnegative cone (source document 001, nonnegativecone.rs): affine_ds, the Jordan product and its inverse, and the inverse
-// product by lambda. The bare calls, and behind each the kernel that it calls once nothing is refused.
+// The nonnegative cone (source document 001, nonnegativecone.rs): the Jordan product and affine_ds. The bare calls, and behind each the
+// kernel that it calls once nothing is refused.
 use answers::Answer;
 ghost use mathlib.Core.Path.{_≡_};
 ghost use mathlib.Core.List.{[], _∷_};
 ghost use lib.ListN.{length};
 ghost use Rattle.answers.specs.Refusal.{Fit};
 ghost use Rattle.answers.specs.Outcome.{told};
-ghost use Rattle.nn_jordan.specs.Jordan.{NonnegAffineDs, NonnegCirc, NonnegInvCirc, NnAffineDs, NnCircOp, NnInvCircOp, NnLambdaInvCircOp};
+ghost use Rattle.nn_jordan.specs.Jordan.{NonnegAffineDs, NonnegCirc, NnAffineDs, NnCircOp};
 
 // ---- the Jordan product
 
@@ -14,7 +14,7 @@ pub fn circ_op(x: &mut [f64], y: &[f64], z: &[f64])
     requires { ⌜ Fit 0 (length (now x)) (length (now y) ∷ length (now z) ∷ []) ⌝ }
     ensures { λ _. ⌜ now (x .exit) ≡ NonnegCirc (now (y .entry)) (now (z .entry)) ⌝ }
 {
-    vecmath::multiply(x, y, z);
+    vectimes::multiply(x, y, z);
 }
 
 // x = y ∘ z
@@ -29,51 +29,13 @@ pub fn nn_circ_op(x: &mut [f64], y: &[f64], z: &[f64]) -> Answer
     Answer::Done
 }
 
-pub fn inv_circ_op(x: &mut [f64], y: &[f64], z: &[f64])
-    requires { ⌜ Fit 0 (length (now x)) (length (now y) ∷ length (now z) ∷ []) ⌝ }
-    ensures { λ _. ⌜ now (x .exit) ≡ NonnegInvCirc (now (y .entry)) (now (z .entry)) ⌝ }
-{
-    vecmath::divide(x, y, z);
-}
-
-// x = y \ z
-pub fn nn_inv_circ_op(x: &mut [f64], y: &[f64], z: &[f64]) -> Answer
-    ensures { λ r. ⌜ told r (now (x .exit) ∷ []) ≡ NnInvCircOp (now (x .entry)) (now (y .entry)) (now (z .entry)) ⌝ }
-{
-    let no = answers::refusal(0, x.len(), (y.len() == x.len()) & (z.len() == x.len()));
-    if no != 0 {
-        return Answer::Refused(no);
-    }
-    inv_circ_op(x, y, z);
-    Answer::Done
-}
-
-pub fn lambda_inv_circ_op(x: &mut [f64], z: &[f64], lambda: &[f64])
-    requires { ⌜ Fit 0 (length (now x)) (length (now z) ∷ length (now lambda) ∷ []) ⌝ }
-    ensures { λ _. ⌜ now (x .exit) ≡ NonnegInvCirc (now (lambda .entry)) (now (z .entry)) ⌝ }
-{
-    inv_circ_op(x, lambda, z);
-}
-
-// x = lambda \ z
-pub fn nn_lambda_inv_circ_op(x: &mut [f64], z: &[f64], lambda: &[f64]) -> Answer
-    ensures { λ r. ⌜ told r (now (x .exit) ∷ []) ≡ NnLambdaInvCircOp (now (x .entry)) (now (z .entry)) (now (lambda .entry)) ⌝ }
-{
-    let no = answers::refusal(0, x.len(), (z.len() == x.len()) & (lambda.len() == x.len()));
-    if no != 0 {
-        return Answer::Refused(no);
-    }
-    lambda_inv_circ_op(x, z, lambda);
-    Answer::Done
-}
-
 // ---- the affine part of ds
 
 pub fn affine_ds(ds: &mut [f64], lambda: &[f64])
     requires { ⌜ Fit 0 (length (now ds)) (length (now lambda) ∷ []) ⌝ }
     ensures { λ _. ⌜ now (ds .exit) ≡ NonnegAffineDs (now (lambda .entry)) ⌝ }
 {
-    vecmath::multiply(ds, lambda, lambda);
+    vectimes::multiply(ds, lambda, lambda);
 }
 
 // ds = lambda·lambda, entry by entry

@@ -3,17 +3,8 @@ use mathlib.Core.Path.{_≡_}
 use mathlib.Core.List.{List}
 use lib.ListN.{length}
 use lib.Ieee.{Float}
-use Rattle.vecmath.specs.Vector.{Quotients}
 use Rattle.vecmath.proofs.Loops.{length-each}
-use Rattle.nn_products.specs.Products.{NonnegMulHs, NonnegOffset, NonnegMulW, NonnegMulWinv}
-
-pub length-mul-hs : (x w : List Float) → length (NonnegMulHs x w) ≡ length x
-unfolding NonnegMulHs
-length-mul-hs x w = length-each _ _
-
-pub length-offset : (ds z : List Float) → length (NonnegOffset ds z) ≡ length ds
-unfolding Quotients
-length-offset ds z = length-each _ _
+use Rattle.nn_products.specs.Products.{NonnegMulW, NonnegMulWinv}
 
 pub length-mul-w : (y x : List Float) (α β : Float) (w : List Float) → length (NonnegMulW y x α β w) ≡ length y
 unfolding NonnegMulW

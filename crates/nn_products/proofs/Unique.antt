@@ -5,15 +5,9 @@ use lib.Ieee.{Float}
 use Rattle.answers.specs.declared.Answer.{Answer}
 use Rattle.answers.specs.Outcome.{Contents, told}
 use Rattle.answers.proofs.Unique.{one-answer}
-use Rattle.nn_products.specs.Products.{NnMulHs, NnDsFromDzOffset, NnMulW, NnMulWinv}
+use Rattle.nn_products.specs.Products.{NnMulW, NnMulWinv}
 
 module _ {r r′ : Answer} {e e′ : Contents} where
-  nn-mul-hs : (y x w : List Float) → told r e ≡ NnMulHs y x w → told r′ e′ ≡ NnMulHs y x w → (r ≡ r′) × (e ≡ e′)
-  nn-mul-hs y x w = one-answer
-
-  nn-ds-from-dz-offset : (out ds z : List Float) → told r e ≡ NnDsFromDzOffset out ds z → told r′ e′ ≡ NnDsFromDzOffset out ds z → (r ≡ r′) × (e ≡ e′)
-  nn-ds-from-dz-offset out ds z = one-answer
-
   nn-mul-w : (y x : List Float) (α β : Float) (w : List Float) → told r e ≡ NnMulW y x α β w → told r′ e′ ≡ NnMulW y x α β w → (r ≡ r′) × (e ≡ e′)
   nn-mul-w y x α β w = one-answer
 

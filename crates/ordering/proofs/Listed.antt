@@ -3,7 +3,7 @@
 use Prim.Native.Nat.{ℕ, zero, suc}
 use mathlib.Core.Path.{_≡_, refl, sym, ap, _∙_}
 use mathlib.Core.Bool.{Bool, true, false, not, cond, false≢true, true≢false, Bool-set}
-use mathlib.Core.List.{List, [], _∷_, _++_, map, map-append, Perm, Permᴰ·map}
+use mathlib.Core.List.{List, [], _∷_, _++_, map-append, Perm, Permᴰ·map}
 use mathlib.Core.Logic.{∥∥₁-elim}
 use mathlib.Core.HLevel.{×₃-prop}
 use borrow.Author.Tests.{not-true}

@@ -7,7 +7,21 @@ use lib.Ieee.{Float}
 use Rattle.answers.specs.Outcome.{Contents, Call, SquaredBy}
 use Rattle.conelist.specs.declared.Cone.{Cone}
 use Rattle.conelist.specs.Layout.{PlaceOf}
-use Rattle.conecalls.specs.Calls.{MarginsAt, ScaledUnitShiftAt, UnitInitializationAt, SetIdentityScalingAt, UpdateScalingAt, GetHsAt, SquareHsAt, MulHsAt, AffineDsAt, CombinedDsShiftAt, DsFromDzOffsetAt, StepLengthAt, MulWAt, MulWinvAt, CircOpAt, InvCircOpAt, LambdaInvCircOpAt, StandingAt}
+use Rattle.list_margins.specs.Margins.{MarginsAt}
+use Rattle.list_units.specs.Units.{ScaledUnitShiftAt, UnitInitializationAt}
+use Rattle.list_identity.specs.Identity.{SetIdentityScalingAt}
+use Rattle.list_scaling.specs.Scaling.{UpdateScalingAt}
+use Rattle.list_blocks.specs.Block.{GetHsAt}
+use Rattle.list_square.specs.Square.{SquareHsAt}
+use Rattle.list_mul_hs.specs.Block.{MulHsAt}
+use Rattle.list_jordan.specs.Jordan.{AffineDsAt, CircOpAt}
+use Rattle.list_combined.specs.Combined.{CombinedDsShiftAt}
+use Rattle.list_offset.specs.Offset.{DsFromDzOffsetAt}
+use Rattle.list_step.specs.Step.{StepLengthAt}
+use Rattle.list_products.specs.Product.{MulWAt}
+use Rattle.list_mul_winv.specs.Product.{MulWinvAt}
+use Rattle.list_inverse.specs.Inverse.{InvCircOpAt, LambdaInvCircOpAt}
+use Rattle.list_standing.specs.Standing.{StandingAt}
 use Rattle.orders.specs.Local.{Store, per-entry, per-cone, blocks}
 use Rattle.orders.specs.Calls.{margins, scaled-unit-shift, unit-initialization, set-identity-scaling, update-scaling, get-hs, square-hs, mul-hs, affine-ds, combined-ds-shift, ds-from-dz-offset, step-length, mul-w, mul-winv, circ-op, inv-circ-op, lambda-inv-circ-op, standing, AsSquared, Meets}
 

@@ -1,28 +1,45 @@
 -- What each rule writes on a cone's own ranges has those ranges' lengths, for either kind. Assumes nothing.
 use Prim.Native.Nat.{ℕ, _≤_}
 use native.Mathlib.Omega.{arith}
-use mathlib.Core.Path.{_≡_, refl, ap, _∙_}
+use mathlib.Core.Path.{_≡_, ap, _∙_}
 use mathlib.Core.List.{List, [], _∷_, map}
 use lib.ListN.{length}
 use lib.Ieee.{Float}
 use Rattle.answers.specs.Refusal.{Same}
-use Rattle.soc_residual.proofs.Laws.{length-unit-shift, length-unit-vector}
-use Rattle.soc_scaling.specs.Scaling.{Stored}
-use Rattle.soc_scaling.proofs.Laws.{lengths-identity, lengths-update-scaling}
+use Rattle.soc_units.proofs.Laws.{length-unit-shift, length-unit-vector}
+use Rattle.soc_identity.proofs.Laws.{lengths-identity}
+use Rattle.soc_scaling.proofs.Laws.{lengths-update-scaling}
 use Rattle.soc_blocks.specs.Block.{BlockLength}
 use Rattle.soc_blocks.proofs.Laws.{hs-long}
-use Rattle.soc_products.proofs.Laws.{length-mul-w, length-mul-winv, length-mul-hs}
+use Rattle.soc_products.proofs.Laws.{length-mul-w, length-mul-winv}
+use Rattle.soc_mul_hs.proofs.Laws.{length-mul-hs}
 use Rattle.soc_offset.proofs.Laws.{length-offset}
-use Rattle.soc_jordan.proofs.Laws.{length-circ, length-inv-circ}
-use Rattle.nn_scaling.proofs.Laws as unit
+use Rattle.soc_jordan.proofs.Laws.{length-circ}
+use Rattle.soc_inverse.proofs.Laws.{length-inv-circ}
+use Rattle.nn_units.proofs.Laws as unit
+use Rattle.nn_scaling.proofs.Laws as scale
+use Rattle.nn_blocks.proofs.Laws as block
 use Rattle.nn_products.proofs.Laws as entrywise
+use Rattle.nn_mul_hs.proofs.Laws as times
+use Rattle.nn_offset.proofs.Laws as moved
 use Rattle.nn_jordan.proofs.Laws as jordan
+use Rattle.nn_inverse.proofs.Laws as inverse
 use Rattle.symmetric_common.specs.Combined.{CombinedShift, NonnegCombinedShift}
 use Rattle.symmetric_common.proofs.Laws.{lengths-combined, lengths-nonneg-combined}
 use Rattle.conelist.specs.declared.Kind.{Kind}
 use Rattle.conelist.specs.declared.Kind.the-variants.{Nonnegative, SecondOrder}
 use Rattle.conelist.specs.Layout.{Dim, LeastDim, BlockDim}
-use Rattle.conecalls.specs.Kinds.{KindUnitShift, KindUnit, KindIdentity, KindScaling, KindHs, KindMulHs, KindAffineDs, KindCombined, KindOffset, KindMulW, KindMulWinv, KindCirc, KindInvCirc}
+use Rattle.list_units.specs.Units.{KindUnitShift, KindUnit}
+use Rattle.list_identity.specs.Identity.{KindIdentity}
+use Rattle.list_scaling.specs.Scaling.{KindScaling}
+use Rattle.list_blocks.specs.Block.{KindHs}
+use Rattle.list_mul_hs.specs.Block.{KindMulHs}
+use Rattle.list_jordan.specs.Jordan.{KindAffineDs, KindCirc}
+use Rattle.list_combined.specs.Combined.{KindCombined}
+use Rattle.list_offset.specs.Offset.{KindOffset}
+use Rattle.list_products.specs.Product.{KindMulW}
+use Rattle.list_mul_winv.specs.Product.{KindMulWinv}
+use Rattle.list_inverse.specs.Inverse.{KindInvCirc}
 
 some : {n : ℕ} → 2 ≤ n → 1 ≤ n
 some h = omega arith
@@ -47,17 +64,17 @@ pub scaling : (kind : Kind) (s z w lambda u v : List Float) (η d : Float) → L
     → length w ≡ Dim kind → length lambda ≡ Dim kind → length u ≡ Dim kind → length v ≡ Dim kind
     → map length (KindScaling kind s z w lambda u v η d .news) ≡ Dim kind ∷ Dim kind ∷ Dim kind ∷ Dim kind ∷ 1 ∷ 1 ∷ []
 unfolding KindScaling
-scaling (Nonnegative n) s z w lambda u v η d h of-s of-z of-w of-lambda of-u of-v = rw (unit.length-w, unit.length-lambda, of-s, of-u, of-v)
+scaling (Nonnegative n) s z w lambda u v η d h of-s of-z of-w of-lambda of-u of-v = rw (scale.length-w, scale.length-lambda, of-s, of-u, of-v)
 scaling (SecondOrder n) s z w lambda u v η d h of-s of-z of-w of-lambda of-u of-v = lengths-update-scaling n (some h) s z w lambda u v η d of-s of-z of-w of-lambda of-u of-v
 
 pub hs : (kind : Kind) (w : List Float) (η d : Float) → length w ≡ Dim kind → length (KindHs kind w η d) ≡ BlockDim kind
 unfolding KindHs BlockLength
-hs (Nonnegative n) w η d of-w = unit.length-hs w ∙ of-w
+hs (Nonnegative n) w η d of-w = block.length-hs w ∙ of-w
 hs (SecondOrder n) w η d of-w = hs-long w η d ∙ ap BlockLength of-w
 
 pub mul-hs : (kind : Kind) (x w : List Float) (η : Float) → length x ≡ Dim kind → length w ≡ Dim kind → length (KindMulHs kind x w η) ≡ Dim kind
 unfolding KindMulHs
-mul-hs (Nonnegative n) x w η of-x of-w = entrywise.length-mul-hs x w ∙ of-x
+mul-hs (Nonnegative n) x w η of-x of-w = times.length-mul-hs x w ∙ of-x
 mul-hs (SecondOrder n) x w η of-x of-w = length-mul-hs x w η of-w
 
 pub affine-ds : (kind : Kind) (lambda : List Float) → LeastDim kind ≤ Dim kind → length lambda ≡ Dim kind → length (KindAffineDs kind lambda) ≡ Dim kind
@@ -76,7 +93,7 @@ combined (SecondOrder n) step_z step_s σμ w η h of-z of-s = three (lengths-co
 
 pub offset : (kind : Kind) (ds z w lambda : List Float) (η : Float) → LeastDim kind ≤ Dim kind → length ds ≡ Dim kind → length z ≡ Dim kind → length (KindOffset kind ds z w lambda η) ≡ Dim kind
 unfolding KindOffset
-offset (Nonnegative n) ds z w lambda η h of-ds of-z = entrywise.length-offset ds z ∙ of-ds
+offset (Nonnegative n) ds z w lambda η h of-ds of-z = moved.length-offset ds z ∙ of-ds
 offset (SecondOrder n) ds z w lambda η h of-ds of-z = length-offset ds z w lambda η (some h) of-z
 
 pub mul-w : (kind : Kind) (y x : List Float) (α β : Float) (w : List Float) (η : Float) → LeastDim kind ≤ Dim kind → length y ≡ Dim kind → length x ≡ Dim kind → length (KindMulW kind y x α β w η) ≡ Dim kind
@@ -96,5 +113,5 @@ circ (SecondOrder n) y z h of-y of-z = length-circ y z (some h) of-z
 
 pub inv-circ : (kind : Kind) (y z : List Float) → LeastDim kind ≤ Dim kind → length y ≡ Dim kind → length z ≡ Dim kind → length (KindInvCirc kind y z) ≡ Dim kind
 unfolding KindInvCirc
-inv-circ (Nonnegative n) y z h of-y of-z = jordan.length-inv-circ y z ∙ of-z
+inv-circ (Nonnegative n) y z h of-y of-z = inverse.length-inv-circ y z ∙ of-z
 inv-circ (SecondOrder n) y z h of-y of-z = length-inv-circ y z (some h) of-y

@@ -16,8 +16,8 @@ use Rattle.nn_step.specs.Step.{NonnegStep}
 use Rattle.conelist.specs.declared.Kind.the-variants.{Nonnegative, SecondOrder}
 use Rattle.conelist.specs.declared.Cone.{Cone}
 use Rattle.conelist.specs.Layout.{Part}
-use Rattle.conecalls.specs.Kinds.{KindStepBy}
-use Rattle.conecalls.specs.List.{SideStep}
+use Rattle.list_step.specs.Step.{KindStepBy}
+use Rattle.whole_step.specs.List.{SideStep}
 use Rattle.orders.specs.Sides.{InOrder, HandedStep, PassedStep, PassedLimits}
 
 -- a nonnegative cone of one entry, and behind it a second-order cone of two

@@ -25,8 +25,8 @@ use Rattle.conelist.specs.declared.Kind.{Kind}
 use Rattle.conelist.specs.declared.Kind.the-variants.{Nonnegative, SecondOrder}
 use Rattle.conelist.specs.declared.Cone.{Cone}
 use Rattle.conelist.specs.Layout.{KindAt}
-use Rattle.conecalls.specs.Kinds.{KindStep, KindStepBy}
-use Rattle.conecalls.specs.List.{StepOfCone, SideStep, ListStepLength}
+use Rattle.list_step.specs.Step.{KindStep, KindStepBy}
+use Rattle.whole_step.specs.List.{StepOfCone, SideStep, ListStepLength}
 use Rattle.orders.specs.Sides.{InOrder, StepsBy, VisitedStep, HandedStep, PassedStep, PassedLimits, NonnegAt, NonnegEntries}
 
 -- each kind's step is the least of its limit and what it is without one, where no nonnegative entry is below zero; and it always counts as

@@ -6,11 +6,25 @@ use lib.Ieee.{Float}
 use Rattle.vecmath.specs.Double.{_!_}
 use Rattle.answers.specs.Refusal.{BadLimit}
 use Rattle.answers.specs.Outcome.{Reply, done, lengths, stands, Ruling, gives, refuses, Outcome, Contents, Does, Squared, NoMatrix}
-use Rattle.soc_blocks.specs.Block.{SquareHs}
+use Rattle.soc_square.specs.Square.{SquareHs}
 use Rattle.conelist.specs.declared.Kind.{Kind}
 use Rattle.conelist.specs.declared.Cone.{Cone}
 use Rattle.conelist.specs.Layout.{PlaceOf}
-use Rattle.conecalls.specs.Kinds.{KindMargins, KindUnitShift, KindUnit, KindIdentity, KindScaling, KindHs, KindNotDense, KindMulHs, KindAffineDs, KindCombined, KindOffset, KindStep, KindMulW, KindMulWinv, KindCirc, KindInvCirc, KindStanding}
+use Rattle.list_margins.specs.Margins.{KindMargins}
+use Rattle.list_units.specs.Units.{KindUnitShift, KindUnit}
+use Rattle.list_identity.specs.Identity.{KindIdentity}
+use Rattle.list_scaling.specs.Scaling.{KindScaling}
+use Rattle.list_blocks.specs.Block.{KindHs}
+use Rattle.list_square.specs.Square.{KindNotDense}
+use Rattle.list_mul_hs.specs.Block.{KindMulHs}
+use Rattle.list_jordan.specs.Jordan.{KindAffineDs, KindCirc}
+use Rattle.list_combined.specs.Combined.{KindCombined}
+use Rattle.list_offset.specs.Offset.{KindOffset}
+use Rattle.list_step.specs.Step.{KindStep}
+use Rattle.list_products.specs.Product.{KindMulW}
+use Rattle.list_mul_winv.specs.Product.{KindMulWinv}
+use Rattle.list_inverse.specs.Inverse.{KindInvCirc}
+use Rattle.list_standing.specs.Standing.{KindStanding}
 use Rattle.orders.specs.Rearranged.{Run, Ended}
 use Rattle.orders.specs.Local.{Name, per-entry, per-cone, blocks, Store, Deed, ComesTo, Answer, After}
 

@@ -11,7 +11,7 @@ use Rattle.conelist.specs.declared.Kind.{Kind}
 use Rattle.conelist.specs.declared.Kind.the-variants.{Nonnegative, SecondOrder}
 use Rattle.conelist.specs.declared.Cone.{Cone}
 use Rattle.conelist.specs.Layout.{KindAt, Row, Of}
-use Rattle.conecalls.specs.List.{StepOfCone}
+use Rattle.whole_step.specs.List.{StepOfCone}
 
 -- the cones of a list in its own order: 0, 1, 2, ..
 abbrev pub InOrder : List Cone → List ℕ

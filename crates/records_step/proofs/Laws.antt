@@ -9,7 +9,7 @@ use lib.Ieee.{Float}
 use Rattle.answers.specs.Outcome.{Came}
 use Rattle.conelist.specs.declared.Cone.{Cone}
 use Rattle.conelist.specs.Walk.{noCone}
-use Rattle.conecalls.specs.List.{ListStepLength}
+use Rattle.whole_step.specs.List.{ListStepLength}
 use Rattle.whole_step.specs.declared.Walk.{Walk}
 use Rattle.whole_step.specs.Walk.{Opening, Further, Closing}
 use Rattle.whole_step.proofs.Walked.{After, after-none, after-turn, walked}

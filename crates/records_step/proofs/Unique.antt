@@ -6,7 +6,7 @@ use lib.Ieee.{Float}
 use Rattle.answers.specs.declared.Steps.{Steps}
 use Rattle.answers.specs.Outcome.{toldSteps}
 use Rattle.answers.proofs.Unique.{one-pair}
-use Rattle.conecalls.specs.List.{ListStepLength}
+use Rattle.whole_step.specs.List.{ListStepLength}
 use Rattle.records.specs.Record.{Cones}
 
 pub list-step-length : {r r′ : Steps} (list : List (List ℕ)) (dz ds z s : List Float) (αmax : Float) → toldSteps r ≡ ListStepLength (Cones list) dz ds z s αmax → toldSteps r′ ≡ ListStepLength (Cones list) dz ds z s αmax → r ≡ r′

@@ -2,7 +2,7 @@
 use answers::Steps;
 ghost use mathlib.Core.Path.{_≡_};
 ghost use Rattle.answers.specs.Outcome.{toldSteps};
-ghost use Rattle.conecalls.specs.List.{ListStepLength};
+ghost use Rattle.whole_step.specs.List.{ListStepLength};
 ghost use Rattle.records.specs.Record.{Cones};
 
 pub fn list_step_length(

@@ -1,14 +1,10 @@
 // Replays recorded cases: reads them from standard input, one to a line, and writes each call's answer and what its slices hold then. A
 // line that is damaged gets a line that says so. docs/CASES.md has the format; compare/cases writes the cases beside this folder, with the
 // answers of the crate that was ported. Of our own; nothing is ported.
-mod four;
-mod many;
-mod one;
-mod three;
-mod told;
-mod two;
-
+use case_words::Cut;
+use case_words::Head;
 use cases::Line;
+use conelist::Place;
 
 // ---- what is wrong with a line
 
@@ -38,15 +34,6 @@ fn damaged(number: u64, fault: u8) {
 
 // ---- a case
 
-// A case but for its row and its slices: the call's number, how many slices it takes, its numbers, and which cone of the row it names.
-pub struct Head {
-    pub call: u64,
-    pub slices: usize,
-    pub a: f64,
-    pub b: f64,
-    pub k: usize,
-}
-
 // How many slices a call takes, by its number in docs/CASES.md: above its last two digits stands whose it is, 0 the numbers', 1 the
 // second-order cone's, 2 the nonnegative cone's, 3 a list's. 9: there is no such call.
 fn slices(call: u64) -> usize {
@@ -74,7 +61,11 @@ fn slices(call: u64) -> usize {
     }
 }
 
-fn numbers(h: Head) {
+fn numbers(words: &[u64], had: Cut, h: Head) -> u8 {
+    let bad = case_words::left(had, words);
+    if bad != 0 {
+        return bad;
+    }
     let call = h.call;
     match call {
         0 => told::value(root::sqrt(h.a)),
@@ -82,223 +73,52 @@ fn numbers(h: Head) {
         _ => told::value(extrema::greatest(h.a, h.b)),
     }
     show::newline();
+    0
 }
 
-// The slices are read one by one, each by a function of its own, which lends it to the next; once the call's are all read, the call is
-// made. Each gives 0, or what is wrong with the line.
-fn slices8(
-    words: &[u64],
-    at: usize,
-    h: Head,
-    row: &[[usize; 3]],
-    x0: &mut [f64],
-    x1: &mut [f64],
-    x2: &mut [f64],
-    x3: &mut [f64],
-    x4: &mut [f64],
-    x5: &mut [f64],
-    x6: &mut [f64],
-    x7: &mut [f64],
-) -> u8 {
-    if at != words.len() {
-        return 9;
+// The step over the whole list.
+fn list_step(words: &[u64], had: Cut, h: Head, row: &[[usize; 3]]) -> u8 {
+    let mut at_dz = [0.0; 64];
+    let of_dz = case_words::behind(had, words, &mut at_dz);
+    let n = of_dz.length;
+    let dz = &at_dz[..n];
+    let mut at_ds = [0.0; 64];
+    let of_ds = case_words::behind(of_dz, words, &mut at_ds);
+    let n = of_ds.length;
+    let ds = &at_ds[..n];
+    let mut at_z = [0.0; 64];
+    let of_z = case_words::behind(of_ds, words, &mut at_z);
+    let n = of_z.length;
+    let z = &at_z[..n];
+    let mut at_s = [0.0; 64];
+    let of_s = case_words::behind(of_z, words, &mut at_s);
+    let n = of_s.length;
+    let s = &at_s[..n];
+    let bad = case_words::left(of_s, words);
+    if bad != 0 {
+        return bad;
     }
-    many::eight(h, row, x0, x1, x2, x3, x4, x5, x6, x7)
+    told::steps(records_step::list_step_length(row, dz, ds, z, s, h.a));
+    told::contents(dz);
+    told::contents(ds);
+    told::contents(z);
+    told::contents(s);
+    show::newline();
+    0
 }
 
-fn slices7(
-    words: &[u64],
-    at: usize,
-    h: Head,
-    row: &[[usize; 3]],
-    x0: &mut [f64],
-    x1: &mut [f64],
-    x2: &mut [f64],
-    x3: &mut [f64],
-    x4: &mut [f64],
-    x5: &mut [f64],
-    x6: &mut [f64],
-) -> u8 {
-    let mut x = [0.0; 64];
-    let cut = cases::slice(at, words, &mut x);
-    if cut.fault != 0 {
-        return cut.fault;
+// The case behind its row, of which p is the cone that it names. Each gives 0, or what is wrong with the line, which then is not told.
+fn made(words: &[u64], had: Cut, h: Head, taken: usize, p: Place) -> u8 {
+    match taken {
+        0 => numbers(words, had, h),
+        1 => replay_few::one::case(words, had, h, p),
+        2 => replay_few::two::case(words, had, h, p),
+        3 => replay_few::three::case(words, had, h, p),
+        4 => replay_four::case(words, had, h, p),
+        5 => replay_many::five::case(words, had, h, p),
+        6 => replay_many::six::case(words, had, h, p),
+        _ => replay_many::eight::case(words, had, h, p),
     }
-    let n = cut.length;
-    slices8(
-        words,
-        cut.at,
-        h,
-        row,
-        x0,
-        x1,
-        x2,
-        x3,
-        x4,
-        x5,
-        x6,
-        &mut x[..n],
-    )
-}
-
-fn slices6(
-    words: &[u64],
-    at: usize,
-    h: Head,
-    row: &[[usize; 3]],
-    x0: &mut [f64],
-    x1: &mut [f64],
-    x2: &mut [f64],
-    x3: &mut [f64],
-    x4: &mut [f64],
-    x5: &mut [f64],
-) -> u8 {
-    if h.slices == 6 {
-        if at != words.len() {
-            return 9;
-        }
-        return many::six(h, row, x0, x1, x2, x3, x4, x5);
-    }
-    let mut x = [0.0; 64];
-    let cut = cases::slice(at, words, &mut x);
-    if cut.fault != 0 {
-        return cut.fault;
-    }
-    let n = cut.length;
-    slices7(words, cut.at, h, row, x0, x1, x2, x3, x4, x5, &mut x[..n])
-}
-
-fn slices5(
-    words: &[u64],
-    at: usize,
-    h: Head,
-    row: &[[usize; 3]],
-    x0: &mut [f64],
-    x1: &mut [f64],
-    x2: &mut [f64],
-    x3: &mut [f64],
-    x4: &mut [f64],
-) -> u8 {
-    if h.slices == 5 {
-        if at != words.len() {
-            return 9;
-        }
-        return many::five(h, row, x0, x1, x2, x3, x4);
-    }
-    let mut x = [0.0; 64];
-    let cut = cases::slice(at, words, &mut x);
-    if cut.fault != 0 {
-        return cut.fault;
-    }
-    let n = cut.length;
-    slices6(words, cut.at, h, row, x0, x1, x2, x3, x4, &mut x[..n])
-}
-
-fn slices4(
-    words: &[u64],
-    at: usize,
-    h: Head,
-    row: &[[usize; 3]],
-    x0: &mut [f64],
-    x1: &mut [f64],
-    x2: &mut [f64],
-    x3: &mut [f64],
-) -> u8 {
-    if h.slices == 4 {
-        if at != words.len() {
-            return 9;
-        }
-        return four::case(h, row, x0, x1, x2, x3);
-    }
-    let mut x = [0.0; 64];
-    let cut = cases::slice(at, words, &mut x);
-    if cut.fault != 0 {
-        return cut.fault;
-    }
-    let n = cut.length;
-    slices5(words, cut.at, h, row, x0, x1, x2, x3, &mut x[..n])
-}
-
-fn slices3(
-    words: &[u64],
-    at: usize,
-    h: Head,
-    row: &[[usize; 3]],
-    x0: &mut [f64],
-    x1: &mut [f64],
-    x2: &mut [f64],
-) -> u8 {
-    if h.slices == 3 {
-        if at != words.len() {
-            return 9;
-        }
-        three::case(h, row, x0, x1, x2);
-        return 0;
-    }
-    let mut x = [0.0; 64];
-    let cut = cases::slice(at, words, &mut x);
-    if cut.fault != 0 {
-        return cut.fault;
-    }
-    let n = cut.length;
-    slices4(words, cut.at, h, row, x0, x1, x2, &mut x[..n])
-}
-
-fn slices2(
-    words: &[u64],
-    at: usize,
-    h: Head,
-    row: &[[usize; 3]],
-    x0: &mut [f64],
-    x1: &mut [f64],
-) -> u8 {
-    if h.slices == 2 {
-        if at != words.len() {
-            return 9;
-        }
-        return two::case(h, row, x0, x1);
-    }
-    let mut x = [0.0; 64];
-    let cut = cases::slice(at, words, &mut x);
-    if cut.fault != 0 {
-        return cut.fault;
-    }
-    let n = cut.length;
-    slices3(words, cut.at, h, row, x0, x1, &mut x[..n])
-}
-
-fn slices1(words: &[u64], at: usize, h: Head, row: &[[usize; 3]], x0: &mut [f64]) -> u8 {
-    if h.slices == 1 {
-        if at != words.len() {
-            return 9;
-        }
-        one::case(h, row, x0);
-        return 0;
-    }
-    let mut x = [0.0; 64];
-    let cut = cases::slice(at, words, &mut x);
-    if cut.fault != 0 {
-        return cut.fault;
-    }
-    let n = cut.length;
-    slices2(words, cut.at, h, row, x0, &mut x[..n])
-}
-
-fn slices0(words: &[u64], at: usize, h: Head, row: &[[usize; 3]]) -> u8 {
-    if h.slices == 0 {
-        if at != words.len() {
-            return 9;
-        }
-        numbers(h);
-        return 0;
-    }
-    let mut x = [0.0; 64];
-    let cut = cases::slice(at, words, &mut x);
-    if cut.fault != 0 {
-        return cut.fault;
-    }
-    let n = cut.length;
-    slices1(words, cut.at, h, row, &mut x[..n])
 }
 
 // A whole line's words; 0, or what is wrong with the line.
@@ -306,24 +126,33 @@ fn case(words: &[u64]) -> u8 {
     if words.len() < 5 {
         return 6;
     }
-    let h = Head {
-        call: words[0],
-        slices: slices(words[0]),
-        a: cases::double(words[1]),
-        b: cases::double(words[2]),
-        k: words[3] as usize,
-    };
-    if h.slices == 9 {
+    let taken = slices(words[0]);
+    if taken == 9 {
         return 5;
     }
+    let h = Head {
+        call: words[0],
+        a: case_words::double(words[1]),
+        b: case_words::double(words[2]),
+    };
     let rest = &words[5..];
-    let mut records = [[0; 3]; 260];
-    let cut = cases::row(words[4] as usize, rest, &mut records);
+    let mut held = [[0; 3]; 260];
+    let cut = case_words::row(words[4] as usize, rest, &mut held);
     if cut.fault != 0 {
         return cut.fault;
     }
     let n = cut.length;
-    slices0(rest, cut.at, h, &records[..n])
+    let row = &held[..n];
+    if h.call == 0x312 {
+        return list_step(rest, cut, h, row);
+    }
+    made(
+        rest,
+        cut,
+        h,
+        taken,
+        records::place_of(row, words[3] as usize),
+    )
 }
 
 // ---- the lines

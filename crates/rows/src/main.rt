@@ -84,7 +84,7 @@ fn ten() -> [Cone; 257] {
 // The margins of cone k, where every entry is 1, of ten entries in all.
 fn line(of: &[u8], list: [Cone; 257], cones: usize, k: usize) {
     show::label(of);
-    match list_units::margins_at(local_rows::place_in(list, cones, k), &[1.0; 10]) {
+    match list_margins::margins_at(local_rows::place_in(list, cones, k), &[1.0; 10]) {
         Margins::Are(a, b) => {
             show::number(a);
             show::text(b" ");
@@ -272,7 +272,7 @@ fn blocks() {
 fn square(of: &[u8], k: usize) {
     show::label(of);
     let list = three(nonnegative(0, 2), second_order(2, 4), second_order(6, 5));
-    let got = list_blocks::square_hs_at(local_rows::place_in(list, 3, k), &[2.0; 11], &[1.0; 3]);
+    let got = list_square::square_hs_at(local_rows::place_in(list, 3, k), &[2.0; 11], &[1.0; 3]);
     show::decimal(got.no as u64);
     show::text(b" ");
     let rows = got.rows;

@@ -1,4 +1,4 @@
--- Worked examples of the bare calls, computed: a statement over a list of them for the packed block, and one for the matrix. Assumes nothing.
+-- Worked examples of the bare call, computed: one statement over one list. Assumes nothing.
 use Prim.Native.Nat.{ℕ}
 use mathlib.Core.Path.{refl}
 use mathlib.Core.List.{List, [], _∷_}
@@ -7,9 +7,9 @@ use lib.Ieee.{Float, binary64, nan, round, ofBits, add, sub, mul}
 use Rattle.vecmath.specs.Double.{𝟎, 𝟏, 𝟐, ½}
 use Rattle.vecmath.specs.Vector.{Each, Constant}
 use Rattle.vecmath.proofs.Examples.{near, minus, Line, _⇒_, Right}
-use Rattle.answers.specs.Refusal.{_⊳_, BadDimension, NotDense, Unlike}
-use Rattle.answers.specs.Outcome.{done, gives, refuses, Came, Call, Squared, SquaredBy, NoMatrix}
-use Rattle.soc_blocks.specs.Block.{BlockLength, SparseHs, Columns, DenseEntry, DenseHs, Hs, SquareEntry, SquareHs, SocGetHs, SocSquareHs}
+use Rattle.answers.specs.Refusal.{_⊳_, BadDimension, Unlike}
+use Rattle.answers.specs.Outcome.{done, gives, refuses, Came, Call}
+use Rattle.soc_blocks.specs.Block.{BlockLength, SparseHs, Columns, DenseEntry, DenseHs, Hs, SocGetHs}
 
 -- into a block of NaN
 abbrev block : (long : ℕ) (w : List Float) (η d : Float) → Came
@@ -22,8 +22,8 @@ abbrev refused : (k long : ℕ) → Came
 refused k long = record { ruling = refuses k; holds = replicate long nan ∷ [] }
 
 -- dense at 2, 3 and 4; sparse at 5; dimension 1, and a block of another length
-packed : List (Line Came)
-packed =
+lines : List (Line Came)
+lines =
     (block 3 (near 5 4 ∷ near 3 4 ∷ []) 𝟐 nan ⇒ written (ofBits binary64 0x4021_0000_0000_0001 ∷ near 15 2 ∷ near 17 2 ∷ []))
     ∷ (block 6 (near 3 2 ∷ minus 1 1 ∷ ½ ∷ []) 𝟐 nan ⇒ written (ofBits binary64 0x402C_0000_0000_0002 ∷ minus 12 1 ∷ near 12 1 ∷ near 6 1 ∷ minus 4 1 ∷ near 6 1 ∷ []))
     ∷ (block 10 (𝟐 ∷ 𝟏 ∷ minus 1 1 ∷ ½ ∷ []) ½ nan ⇒ written (ofBits binary64 0x3FFC_0000_0000_0001 ∷ 𝟏 ∷ near 3 4 ∷ minus 1 1 ∷ minus 1 2 ∷ near 3 4 ∷ ½ ∷ near 1 4 ∷ minus 1 4 ∷ near 3 8 ∷ []))
@@ -32,24 +32,6 @@ packed =
     ∷ (block 4 (𝟏 ∷ 𝟎 ∷ []) 𝟏 𝟏 ⇒ refused 5 4)
     ∷ []
 
-packed-worked : Right packed
-unfolding packed Hs SparseHs DenseHs DenseEntry Columns BlockLength Constant Each Call _⊳_ BadDimension Unlike round ofBits add sub mul
-packed-worked = refl
-
--- dimension 2 of 4; 5 is not dense; dimension 1
-square : List (Line Squared)
-square =
-    (SocSquareHs (near 5 4 ∷ near 3 4 ∷ []) 𝟐 ⇒ record {
-      number = 0;
-      matrix =
-          (ofBits binary64 0x4021_0000_0000_0001 ∷ near 15 2 ∷ 𝟎 ∷ 𝟎 ∷ [])
-          ∷ (near 15 2 ∷ near 17 2 ∷ 𝟎 ∷ 𝟎 ∷ [])
-          ∷ replicate 4 𝟎 ∷ replicate 4 𝟎 ∷ [];
-    })
-    ∷ (SocSquareHs (replicate 5 𝟏) 𝟐 ⇒ record { number = 7; matrix = NoMatrix })
-    ∷ (SocSquareHs (𝟏 ∷ []) 𝟐 ⇒ record { number = 1; matrix = NoMatrix })
-    ∷ []
-
-square-worked : Right square
-unfolding square SquareHs SquareEntry DenseEntry Each SquaredBy _⊳_ BadDimension NotDense round ofBits add sub mul
-square-worked = refl
+worked : Right lines
+unfolding lines Hs SparseHs DenseHs DenseEntry Columns BlockLength Constant Each Call _⊳_ BadDimension Unlike round ofBits add sub mul
+worked = refl

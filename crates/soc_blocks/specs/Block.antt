@@ -1,15 +1,15 @@
--- Document 01, "Second-order rules": Hs, packed and as a square matrix; source document 000, lines 217 to 246. Assumes nothing.
+-- Document 01, "Second-order rules": Hs, packed; source document 000, lines 217 to 246. Assumes nothing.
 use Prim.Native.Nat.{ℕ, zero, suc, _+_, _*_, _/_}
-use mathlib.Core.Bool.{cond, _&&_}
+use mathlib.Core.Bool.{cond}
 use mathlib.Core.List.{List, [], _∷_, _++_}
 use lib.Dec.{ltb, eqb}
 use lib.ListN.{length}
 use lib.Ieee.{Float, binary64, ofBits}
-use Rattle.vecmath.specs.Double.{_⊕_, _⊖_, _⊗_, 𝟎, 𝟏, 𝟐, _!_}
+use Rattle.vecmath.specs.Double.{_⊕_, _⊖_, _⊗_, 𝟏, 𝟐, _!_}
 use Rattle.vecmath.specs.Vector.{Each, Constant}
 use Rattle.tails.specs.Tail.{Tail}
-use Rattle.answers.specs.Refusal.{_⊳_, BadDimension, NotDense, Unlike, Alike}
-use Rattle.answers.specs.Outcome.{done, Came, Call, Squared, SquaredBy}
+use Rattle.answers.specs.Refusal.{_⊳_, BadDimension, Unlike, Alike}
+use Rattle.answers.specs.Outcome.{done, Came, Call}
 
 -- ---- the packed block
 
@@ -43,22 +43,8 @@ DenseHs w η = Columns (length w) (λ row col. η ⊗ η ⊗ DenseEntry w row co
 unfoldable pub Hs : (w : List Float) (η d : Float) → List Float
 Hs w η d = cond (ltb 4 (length w)) (SparseHs (length w) η d) (DenseHs w η)
 
--- ---- the dense block as a square matrix: both triangles filled, +0 beyond the dimension
-
-unfoldable pub SquareEntry : (w : List Float) (η : Float) (row col : ℕ) → Float
-SquareEntry w η row col =
-    cond (ltb row (length w) && ltb col (length w))
-    (η ⊗ η ⊗ cond (ltb row col) (DenseEntry w row col) (DenseEntry w col row))
-    𝟎
-
-unfoldable pub SquareHs : (w : List Float) (η : Float) → List (List Float)
-SquareHs w η = Each 4 (λ row. Each 4 (λ col. SquareEntry w η row col))
-
 -- ---- the bare calls; the dimension is w's length
 
 abbrev pub SocGetHs : (hs w : List Float) (η d : Float) → Came
 SocGetHs hs w η d =
     Call (BadDimension 2 (length w) ⊳ Unlike (Alike (BlockLength (length w)) (length hs ∷ []))) done (hs ∷ []) (Hs w η d ∷ [])
-
-abbrev pub SocSquareHs : (w : List Float) (η : Float) → Squared
-SocSquareHs w η = SquaredBy (BadDimension 2 (length w) ⊳ NotDense (length w)) (SquareHs w η)

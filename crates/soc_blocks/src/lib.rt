@@ -1,16 +1,14 @@
-// The second-order cone's block Hs (source document 000, lines 217 to 246), packed and as a square matrix: the bare calls, and behind each
-// the kernel that it calls once nothing is refused.
+// The second-order cone's block Hs (source document 000, lines 217 to 246), packed: the bare call, and behind it the kernel that it calls
+// once nothing is refused.
 use answers::Answer;
-use answers::Row;
-use answers::Square;
 ghost use mathlib.Core.Path.{_≡_};
-ghost use mathlib.Core.List.{[], _∷_, map};
+ghost use mathlib.Core.List.{[], _∷_};
 ghost use Prim.Native.Nat.{_+_, _*_, _/_, _≤_, _<_};
 ghost use lib.ListN.{length};
 ghost use Rattle.vecmath.specs.Double.{_⊗_};
 ghost use Rattle.vecmath.specs.Vector.{Each};
-ghost use Rattle.answers.specs.Outcome.{told, toldSquare, NoMatrix};
-ghost use Rattle.soc_blocks.specs.Block.{BlockLength, SparseHs, DenseEntry, DenseHs, Hs, SquareEntry, SquareHs, SocGetHs, SocSquareHs};
+ghost use Rattle.answers.specs.Outcome.{told};
+ghost use Rattle.soc_blocks.specs.Block.{BlockLength, SparseHs, DenseEntry, DenseHs, Hs, SocGetHs};
 
 const SQRT_2: f64 = 1.4142135623730951;
 
@@ -22,7 +20,7 @@ pub fn block_length(n: usize) -> usize
 }
 
 // An entry of the upper triangle, before the factor.
-fn dense_entry(w: &[f64], row: usize, col: usize) -> f64
+pub fn dense_entry(w: &[f64], row: usize, col: usize) -> f64
     requires { ⌜ (row < length (now w)) × (col < length (now w)) ⌝ }
     ensures { λ r. ⌜ r ≡ DenseEntry (now (w .entry)) row col ⌝ }
 {
@@ -68,7 +66,7 @@ fn sparse_hs(hs: &mut [f64], eta: f64, d: f64)
 {
     let eta2 = eta * eta;
     vecmath::fill(hs, eta2);
-    tails::set_first(hs, eta2 * d);
+    tails_write::set_first(hs, eta2 * d);
 }
 
 pub fn get_hs(hs: &mut [f64], w: &[f64], eta: f64, d: f64)
@@ -82,49 +80,6 @@ pub fn get_hs(hs: &mut [f64], w: &[f64], eta: f64, d: f64)
     }
 }
 
-// An entry of the square matrix: of either triangle, or beyond the dimension.
-fn square_entry(w: &[f64], eta: f64, row: usize, col: usize) -> f64
-    ensures { λ r. ⌜ r ≡ SquareEntry (now (w .entry)) eta row col ⌝ }
-{
-    if (row < w.len()) & (col < w.len()) {
-        if row < col {
-            return eta * eta * dense_entry(w, row, col);
-        }
-        return eta * eta * dense_entry(w, col, row);
-    }
-    0.0
-}
-
-fn square_row(w: &[f64], eta: f64, row: usize) -> Row
-    ensures { λ r. ⌜ r .entries ≡ Each 4 (λ col. SquareEntry (now (w .entry)) eta row col) ⌝ }
-{
-    let c0 = square_entry(w, eta, row, 0);
-    let c1 = square_entry(w, eta, row, 1);
-    let c2 = square_entry(w, eta, row, 2);
-    let c3 = square_entry(w, eta, row, 3);
-    Row {
-        entries: [c0, c1, c2, c3],
-    }
-}
-
-pub fn square_hs(w: &[f64], eta: f64) -> [Row; 4]
-    ensures { λ r. ⌜ map (λ row. row .entries) r ≡ SquareHs (now (w .entry)) eta ⌝ }
-{
-    let r0 = square_row(w, eta, 0);
-    let r1 = square_row(w, eta, 1);
-    let r2 = square_row(w, eta, 2);
-    let r3 = square_row(w, eta, 3);
-    [r0, r1, r2, r3]
-}
-
-// A refusal's number beside a matrix of zeros.
-pub fn no_square(no: u8) -> Square
-    ensures { λ r. ⌜ toldSquare r ≡ record { number = no; matrix = NoMatrix } ⌝ }
-{
-    let row = Row { entries: [0.0; 4] };
-    Square { no, rows: [row; 4] }
-}
-
 pub fn soc_get_hs(hs: &mut [f64], w: &[f64], eta: &f64, d: &f64) -> Answer
     ensures { λ r. ⌜ told r (now (hs .exit) ∷ [])
         ≡ SocGetHs (now (hs .entry)) (now (w .entry)) (now (eta .entry)) (now (d .entry)) ⌝ }
@@ -135,20 +90,4 @@ pub fn soc_get_hs(hs: &mut [f64], w: &[f64], eta: &f64, d: &f64) -> Answer
     }
     get_hs(hs, w, *eta, *d);
     Answer::Done
-}
-
-pub fn soc_square_hs(w: &[f64], eta: &f64) -> Square
-    ensures { λ r. ⌜ toldSquare r ≡ SocSquareHs (now (w .entry)) (now (eta .entry)) ⌝ }
-{
-    let no = answers::first_refusal(
-        answers::dimension_refusal(2, w.len()),
-        answers::dense_refusal(w.len()),
-    );
-    if no != 0 {
-        return no_square(no);
-    }
-    Square {
-        no: 0,
-        rows: square_hs(w, *eta),
-    }
 }

@@ -7,12 +7,8 @@ use lib.ListN.{length, length-drop}
 use lib.Ieee.{Float}
 use Rattle.vecmath.specs.Vector.{Axpby}
 use Rattle.vecmath.proofs.Loops.{length-each}
-use Rattle.soc_jordan.specs.Jordan.{Circ, InvCirc}
+use Rattle.soc_jordan.specs.Jordan.{Circ}
 
 pub length-circ : {n : ℕ} (y z : List Float) → 1 ≤ n → length z ≡ n → length (Circ y z) ≡ n
 unfolding Circ Axpby
 length-circ y z h e = simp (length-each, length-drop) (omega arith)
-
-pub length-inv-circ : {n : ℕ} (y z : List Float) → 1 ≤ n → length y ≡ n → length (InvCirc y z) ≡ n
-unfolding InvCirc Axpby
-length-inv-circ y z h e = simp (length-each, length-drop) (omega arith)

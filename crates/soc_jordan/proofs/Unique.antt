@@ -5,7 +5,7 @@ use lib.Ieee.{Float}
 use Rattle.answers.specs.declared.Answer.{Answer}
 use Rattle.answers.specs.Outcome.{Contents, told}
 use Rattle.answers.proofs.Unique.{one-answer}
-use Rattle.soc_jordan.specs.Jordan.{SocCircOp, SocInvCircOp, SocLambdaInvCircOp, SocAffineDs}
+use Rattle.soc_jordan.specs.Jordan.{SocCircOp, SocAffineDs}
 
 module _ {r r′ : Answer} {e e′ : Contents} where
   soc-circ-op : (x y z : List Float) → told r e ≡ SocCircOp x y z → told r′ e′ ≡ SocCircOp x y z → (r ≡ r′) × (e ≡ e′)
@@ -13,9 +13,3 @@ module _ {r r′ : Answer} {e e′ : Contents} where
 
   soc-affine-ds : (ds lambda : List Float) → told r e ≡ SocAffineDs ds lambda → told r′ e′ ≡ SocAffineDs ds lambda → (r ≡ r′) × (e ≡ e′)
   soc-affine-ds ds lambda = one-answer
-
-  soc-inv-circ-op : (x y z : List Float) → told r e ≡ SocInvCircOp x y z → told r′ e′ ≡ SocInvCircOp x y z → (r ≡ r′) × (e ≡ e′)
-  soc-inv-circ-op x y z = one-answer
-
-  soc-lambda-inv-circ-op : (x z lambda : List Float) → told r e ≡ SocLambdaInvCircOp x z lambda → told r′ e′ ≡ SocLambdaInvCircOp x z lambda → (r ≡ r′) × (e ≡ e′)
-  soc-lambda-inv-circ-op x z lambda = one-answer

@@ -47,14 +47,14 @@ pub fn ds_from_dz_offset(
     let lambda1ds1 = tails::dot(lambda, ds);
     let w1ds1 = tails::dot(w, ds);
     vecmath::negate_from(out, z);
-    tails::set_first(out, z[0]);
+    tails_write::set_first(out, z[0]);
     let lambda0 = lambda[0];
     let c = lambda0 * ds[0] - lambda1ds1;
-    vecmath::scale(out, c / resz);
+    vecscale::scale(out, c / resz);
     let out0 = out[0] + eta * w1ds1;
-    tails::set_first(out, out0);
+    tails_write::set_first(out, out0);
     add_offset_tail(out, eta, ds, w1ds1 / (1.0 + w[0]), w);
-    vecmath::scale(out, 1.0 / lambda0);
+    vecscale::scale(out, 1.0 / lambda0);
 }
 
 // The constant part of Δs as a function of Δz.

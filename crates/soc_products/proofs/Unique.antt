@@ -5,7 +5,7 @@ use lib.Ieee.{Float}
 use Rattle.answers.specs.declared.Answer.{Answer}
 use Rattle.answers.specs.Outcome.{Contents, told}
 use Rattle.answers.proofs.Unique.{one-answer}
-use Rattle.soc_products.specs.Product.{SocMulW, SocMulWinv, SocMulHs}
+use Rattle.soc_products.specs.Product.{SocMulW, SocMulWinv}
 
 module _ {r r′ : Answer} {e e′ : Contents} where
   soc-mul-w : (y x : List Float) (α β : Float) (w : List Float) (η : Float) → told r e ≡ SocMulW y x α β w η → told r′ e′ ≡ SocMulW y x α β w η → (r ≡ r′) × (e ≡ e′)
@@ -13,6 +13,3 @@ module _ {r r′ : Answer} {e e′ : Contents} where
 
   soc-mul-winv : (y x : List Float) (α β : Float) (w : List Float) (η : Float) → told r e ≡ SocMulWinv y x α β w η → told r′ e′ ≡ SocMulWinv y x α β w η → (r ≡ r′) × (e ≡ e′)
   soc-mul-winv y x α β w η = one-answer
-
-  soc-mul-hs : (y x w : List Float) (η : Float) → told r e ≡ SocMulHs y x w η → told r′ e′ ≡ SocMulHs y x w η → (r ≡ r′) × (e ≡ e′)
-  soc-mul-hs y x w η = one-answer

@@ -3,9 +3,9 @@ use mathlib.Core.Path.{refl}
 use mathlib.Core.List.{List, [], _∷_}
 use lib.Ieee.{Float, nan, round, ofBits, add, sub, mul, div, neg}
 use Rattle.vecmath.specs.Double.{𝟎, 𝟏}
-use Rattle.vecmath.specs.Vector.{Each, Fold, Dot, Scale, Axpby}
+use Rattle.vecmath.specs.Vector.{Each, Fold, Dot, Axpby}
 use Rattle.vecmath.proofs.Examples.{near, Line, _⇒_, Right}
-use Rattle.soc_products.specs.Product.{MulW, MulWinv, MulHs}
+use Rattle.soc_products.specs.Product.{MulW, MulWinv}
 
 abbrev w : List Float
 w = near 5 4 ∷ near 3 4 ∷ []
@@ -30,9 +30,8 @@ lines =
     ∷ (over y (times y (near 5 1 ∷ near 3 1 ∷ [])) ⇒ near 5 1 ∷ near 3 1 ∷ [])
     ∷ (times y∙nan (near 5 1 ∷ near 3 1 ∷ []) ⇒ near 17 2 ∷ nan ∷ [])
     ∷ (over y∙nan (near 17 2 ∷ near 15 2 ∷ []) ⇒ near 5 1 ∷ nan ∷ [])
-    ∷ (MulHs (near 5 1 ∷ near 3 1 ∷ []) w (near 2 1) ⇒ near 65 1 ∷ near 63 1 ∷ [])
     ∷ []
 
 worked : Right lines
-unfolding lines MulW MulWinv MulHs Scale Axpby Dot Each Fold round ofBits add sub mul div neg
+unfolding lines MulW MulWinv Axpby Dot Each Fold round ofBits add sub mul div neg
 worked = refl

@@ -1,10 +1,10 @@
--- Document 01, "Second-order rules": `mul_W`, `mul_Winv` and `mul_Hs`; source document 000, lines 248 to 256 and 504 to 530, in order. z₁ is
--- Tail z. β·y is computed even for β = 0. Assumes nothing.
+-- Document 01, "Second-order rules": `mul_W` and `mul_Winv`; source document 000, lines 504 to 530, in order. z₁ is Tail z. β·y is computed
+-- even for β = 0. Assumes nothing.
 use mathlib.Core.List.{List, [], _∷_}
 use lib.ListN.{length}
 use lib.Ieee.{Float, neg}
-use Rattle.vecmath.specs.Double.{_⊕_, _⊖_, _⊗_, _⊘_, 𝟏, 𝟐, _!_}
-use Rattle.vecmath.specs.Vector.{Dot, Scale, Axpby}
+use Rattle.vecmath.specs.Double.{_⊕_, _⊖_, _⊗_, _⊘_, 𝟏, _!_}
+use Rattle.vecmath.specs.Vector.{Dot, Axpby}
 use Rattle.tails.specs.Tail.{Tail}
 use Rattle.answers.specs.Refusal.{Refusal}
 use Rattle.answers.specs.Outcome.{done, Came, Call}
@@ -29,12 +29,6 @@ MulWinv y x α β w η =
     let y₁ = Axpby (α ⊘ η ⊗ c) (Tail w) β (Tail y) in
     y₀ ∷ Axpby (α ⊘ η) (Tail x) 𝟏 y₁
 
--- y = Hs·x: c = 2·(w·x), then η²·(c·w + (−x₀, x₁)) (mul_Hs)
-unfoldable pub MulHs : (x w : List Float) (η : Float) → List Float
-MulHs x w η =
-    let c = Dot w x ⊗ 𝟐 in
-    Scale (η ⊗ η) (Axpby c w 𝟏 (neg (x ! 0) ∷ Tail x))
-
 -- ---- the bare calls
 
 abbrev pub SocMulW : (y x : List Float) (α β : Float) (w : List Float) (η : Float) → Came
@@ -42,6 +36,3 @@ SocMulW y x α β w η = Call (Refusal 2 (length y) (length x ∷ length w ∷ [
 
 abbrev pub SocMulWinv : (y x : List Float) (α β : Float) (w : List Float) (η : Float) → Came
 SocMulWinv y x α β w η = Call (Refusal 2 (length y) (length x ∷ length w ∷ [])) done (y ∷ []) (MulWinv y x α β w η ∷ [])
-
-abbrev pub SocMulHs : (y x w : List Float) (η : Float) → Came
-SocMulHs y x w η = Call (Refusal 2 (length y) (length x ∷ length w ∷ [])) done (y ∷ []) (MulHs x w η ∷ [])

@@ -1,14 +1,12 @@
-// The second-order cone's products with W, its inverse and Hs (source document 000, lines 248 to 256 and 504 to 530): the bare calls, and
-// behind each the kernel that it calls once nothing is refused.
+// The second-order cone's products with W and its inverse (source document 000, lines 504 to 530): the bare calls, and behind each the
+// kernel that it calls once nothing is refused.
 use answers::Answer;
 ghost use mathlib.Core.Path.{_≡_};
 ghost use mathlib.Core.List.{[], _∷_};
 ghost use lib.ListN.{length};
 ghost use Rattle.answers.specs.Refusal.{Fit};
 ghost use Rattle.answers.specs.Outcome.{told};
-ghost use Rattle.soc_products.specs.Product.{MulW, MulWinv, MulHs, SocMulW, SocMulWinv, SocMulHs};
-
-// ---- products with W and its inverse
+ghost use Rattle.soc_products.specs.Product.{MulW, MulWinv, SocMulW, SocMulWinv};
 
 pub fn mul_w(y: &mut [f64], x: &[f64], alpha: f64, beta: f64, w: &[f64], eta: f64)
     requires { ⌜ Fit 2 (length (now y)) (length (now x) ∷ length (now w) ∷ []) ⌝ }
@@ -17,9 +15,9 @@ pub fn mul_w(y: &mut [f64], x: &[f64], alpha: f64, beta: f64, w: &[f64], eta: f6
     let zeta = tails::dot(w, x);
     let c = x[0] + zeta / (1.0 + w[0]);
     let y0 = (alpha * eta) * (w[0] * x[0] + zeta) + beta * y[0];
-    tails::set_first(y, y0);
-    tails::axpby(y, alpha * eta * c, w, beta);
-    tails::axpby(y, alpha * eta, x, 1.0);
+    tails_write::set_first(y, y0);
+    tails_write::axpby(y, alpha * eta * c, w, beta);
+    tails_write::axpby(y, alpha * eta, x, 1.0);
 }
 
 // y = alpha·W·x + beta·y
@@ -42,9 +40,9 @@ pub fn mul_winv(y: &mut [f64], x: &[f64], alpha: f64, beta: f64, w: &[f64], eta:
     let zeta = tails::dot(w, x);
     let c = -x[0] + zeta / (1.0 + w[0]);
     let y0 = (alpha / eta) * (w[0] * x[0] - zeta) + beta * y[0];
-    tails::set_first(y, y0);
-    tails::axpby(y, alpha / eta * c, w, beta);
-    tails::axpby(y, alpha / eta, x, 1.0);
+    tails_write::set_first(y, y0);
+    tails_write::axpby(y, alpha / eta * c, w, beta);
+    tails_write::axpby(y, alpha / eta, x, 1.0);
 }
 
 // y = alpha·W⁻¹·x + beta·y
@@ -57,31 +55,5 @@ pub fn soc_mul_winv(y: &mut [f64], x: &[f64], alpha: f64, beta: f64, w: &[f64], 
         return Answer::Refused(no);
     }
     mul_winv(y, x, alpha, beta, w, *eta);
-    Answer::Done
-}
-
-// ---- the block times a vector
-
-pub fn mul_hs(y: &mut [f64], x: &[f64], w: &[f64], eta: f64)
-    requires { ⌜ Fit 2 (length (now y)) (length (now x) ∷ length (now w) ∷ []) ⌝ }
-    ensures { λ _. ⌜ now (y .exit) ≡ MulHs (now (x .entry)) (now (w .entry)) eta ⌝ }
-{
-    let c = folds::dot(w, x) * 2.0;
-    vecmath::copy_from(y, x);
-    tails::set_first(y, -x[0]);
-    vecmath::axpby(y, c, w, 1.0);
-    vecmath::scale(y, eta * eta);
-}
-
-// y = Hs·x
-pub fn soc_mul_hs(y: &mut [f64], x: &[f64], w: &[f64], eta: &f64) -> Answer
-    ensures { λ r. ⌜ told r (now (y .exit) ∷ [])
-        ≡ SocMulHs (now (y .entry)) (now (x .entry)) (now (w .entry)) (now (eta .entry)) ⌝ }
-{
-    let no = answers::refusal(2, y.len(), (x.len() == y.len()) & (w.len() == y.len()));
-    if no != 0 {
-        return Answer::Refused(no);
-    }
-    mul_hs(y, x, w, *eta);
     Answer::Done
 }

@@ -1,3 +1,2 @@
--- `Laws`: what the calls keep. `Unique`: each public call leaves one result.
-pub mod Laws
+-- `Unique`: a contract leaves one result.
 pub mod Unique

@@ -1,21 +1,22 @@
--- The three ends of a scaling, from what its steps computed; and that what these calls write has its slice's length, for every n.
--- Assumes nothing.
+-- The three ends of a scaling, from what its steps computed; and that what a scaling writes has its slice's length, for every n. Assumes
+-- nothing.
 use Prim.Native.Nat.{ℕ, _≤_}
-use native.Mathlib.Omega.{arith}
 use mathlib.Core.Path.{_≡_, refl}
 use mathlib.Core.Bool.{Bool, true, false, cond, _||_}
 use mathlib.Core.List.{List, [], _∷_, map}
-use lib.ListN.{length, length-drop}
+use lib.ListN.{length}
 use lib.Ieee.{Float, eq}
 use Rattle.root.specs.Root.{Root}
 use Rattle.vecmath.specs.Double.{_⊘_, 𝟎}
-use Rattle.vecmath.specs.Vector.{Constant}
-use Rattle.vecmath.proofs.Loops.{length-each}
 use Rattle.answers.specs.Outcome.{truth, Does}
 use Rattle.soc_residual.specs.Residual.{RootScale}
-use Rattle.soc_terms.specs.Terms.{Point, Normed, Lambda, SparseU, SparseV, SparseD}
-use Rattle.soc_terms.proofs.Laws.{length-point, length-normed, length-lambda, length-sparse-u, length-sparse-v}
-use Rattle.soc_scaling.specs.Scaling.{Sparse, Stored, Leading, Identity, UpdateScaling}
+use Rattle.soc_terms.specs.Terms.{Point, Normed, Lambda}
+use Rattle.soc_sparse.specs.Sparse.{SparseU, SparseV, SparseD}
+use Rattle.soc_terms.proofs.Laws.{length-point, length-normed, length-lambda}
+use Rattle.soc_sparse.proofs.Laws.{length-sparse-u, length-sparse-v}
+use Rattle.soc_identity.specs.Identity.{Sparse}
+use Rattle.soc_scaling.specs.Scaling.{Stored, UpdateScaling}
+use Rattle.soc_identity.proofs.Laws.{length-cond, cond-same}
 
 -- ---- the ends of a scaling
 
@@ -37,32 +38,11 @@ module _ (s z w lambda u v : List Float) (η d : Float) {ζ σ : Float} (of-z : 
 
 -- ---- lengths
 
-length-constant : (n : ℕ) (a : Float) → length (Constant n a) ≡ n
-unfolding Constant
-length-constant n a = length-each n _
-
--- of one of two
-length-cond : (t : Bool) (x y : List Float) → length (cond t x y) ≡ cond t (length x) (length y)
-length-cond true x y = refl
-length-cond false x y = refl
-
 lengths-cond : (t : Bool) (x y : Does) → map length (cond t x y .news) ≡ cond t (map length (x .news)) (map length (y .news))
 lengths-cond true x y = refl
 lengths-cond false x y = refl
 
-cond-same : {A : Type 0} (t : Bool) (x : A) → cond t x x ≡ x
-cond-same true x = refl
-cond-same false x = refl
-
 module _ (n : ℕ) (some : 1 ≤ n) where
-  length-leading : (a : Float) → length (Leading n a) ≡ n
-  unfolding Leading
-  length-leading a = simp (length-drop, length-constant) (omega arith)
-
-  pub lengths-identity : (w u v : List Float) (d : Float) → length w ≡ n → length u ≡ n → length v ≡ n → map length (Identity w u v d) ≡ n ∷ n ∷ n ∷ 1 ∷ 1 ∷ []
-  unfolding Identity
-  lengths-identity w u v d of-w of-u of-v = simp (of-w, length-cond, of-u, of-v, length-leading, length-constant, cond-same)
-
   pub lengths-update-scaling : (s z w lambda u v : List Float) (η d : Float) → length s ≡ n → length z ≡ n → length w ≡ n → length lambda ≡ n → length u ≡ n → length v ≡ n
       → map length (UpdateScaling s z w lambda u v η d .news) ≡ n ∷ n ∷ n ∷ n ∷ 1 ∷ 1 ∷ []
   unfolding UpdateScaling

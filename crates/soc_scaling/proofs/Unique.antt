@@ -2,15 +2,11 @@
 use mathlib.Core.Path.{_≡_}
 use mathlib.Core.List.{List}
 use lib.Ieee.{Float}
-use Rattle.answers.specs.declared.Answer.{Answer}
 use Rattle.answers.specs.declared.Scaling.{Scaling}
-use Rattle.answers.specs.Outcome.{Contents, told, toldScaling}
-use Rattle.answers.proofs.Unique.{one-answer, one-scaling}
-use Rattle.soc_scaling.specs.Scaling.{SocSetIdentityScaling, SocUpdateScaling}
+use Rattle.answers.specs.Outcome.{Contents, toldScaling}
+use Rattle.answers.proofs.Unique.{one-scaling}
+use Rattle.soc_scaling.specs.Scaling.{SocUpdateScaling}
 
 module _ {e e′ : Contents} where
-  soc-set-identity-scaling : {r r′ : Answer} (w u v : List Float) (η d : Float) → told r e ≡ SocSetIdentityScaling w u v η d → told r′ e′ ≡ SocSetIdentityScaling w u v η d → (r ≡ r′) × (e ≡ e′)
-  soc-set-identity-scaling w u v η d = one-answer
-
   soc-update-scaling : {r r′ : Scaling} (s z w lambda u v : List Float) (η d : Float) → toldScaling r e ≡ SocUpdateScaling s z w lambda u v η d → toldScaling r′ e′ ≡ SocUpdateScaling s z w lambda u v η d → (r ≡ r′) × (e ≡ e′)
   soc-update-scaling s z w lambda u v η d = one-scaling

@@ -1,37 +1,12 @@
-// The second-order cone's scaling (source document 000, lines 121 to 211): identity scaling and `update_scaling`. The bare calls, and behind
-// each the kernel that it calls once nothing is refused.
-use answers::Answer;
+// The second-order cone's scaling (source document 000, lines 134 to 211): `update_scaling`. The bare call, and behind it the kernel that
+// it calls once nothing is refused.
 use answers::Scaling;
 ghost use mathlib.Core.Path.{_≡_};
 ghost use mathlib.Core.List.{[], _∷_};
 ghost use lib.ListN.{length};
 ghost use Rattle.answers.specs.Refusal.{Fit};
-ghost use Rattle.answers.specs.Outcome.{truth, told, toldScaling};
-ghost use Rattle.soc_scaling.specs.Scaling.{Stored, Leading, Identity, UpdateScaling, SocSetIdentityScaling, SocUpdateScaling};
-
-// x = (a, 0, ..)
-fn leading(x: &mut [f64], a: f64)
-    requires { ⌜ Fit 2 (length (now x)) [] ⌝ }
-    ensures { λ _. ⌜ now (x .exit) ≡ Leading (length (now (x .entry))) a ⌝ }
-{
-    vecmath::fill(x, 0.0);
-    tails::set_first(x, a);
-}
-
-pub fn set_identity_scaling(w: &mut [f64], u: &mut [f64], v: &mut [f64], eta: &mut f64, d: &mut f64)
-    requires { ⌜ Fit 2 (length (now w)) (length (now u) ∷ length (now v) ∷ []) ⌝ }
-    ensures { λ _. ⌜ now (w .exit) ∷ now (u .exit) ∷ now (v .exit) ∷ (now (eta .exit) ∷ []) ∷ (now (d .exit) ∷ []) ∷ []
-        ≡ Identity (now (w .entry)) (now (u .entry)) (now (v .entry)) (now (d .entry)) ⌝ }
-{
-    let sparse = 4 < w.len();
-    leading(w, 1.0);
-    *eta = 1.0;
-    if sparse {
-        *d = 0.5;
-        leading(u, 0.7071067811865476);
-        vecmath::fill(v, 0.0);
-    }
-}
+ghost use Rattle.answers.specs.Outcome.{truth, toldScaling};
+ghost use Rattle.soc_scaling.specs.Scaling.{Stored, UpdateScaling, SocUpdateScaling};
 
 pub fn update_scaling(
     s: &[f64],
@@ -65,26 +40,8 @@ pub fn update_scaling(
     }
     let w1sq = soc_terms::normalize(w, wscale);
     soc_terms::scaling_point(lambda, s, z, sscale, zscale, wscale);
-    soc_terms::expand(4 < s.len(), w, w1sq, u, v, d);
+    soc_sparse::expand(4 < s.len(), w, w1sq, u, v, d);
     true
-}
-
-pub fn soc_set_identity_scaling(
-    w: &mut [f64],
-    u: &mut [f64],
-    v: &mut [f64],
-    eta: &mut f64,
-    d: &mut f64,
-) -> Answer
-    ensures { λ r. ⌜ told r (now (w .exit) ∷ now (u .exit) ∷ now (v .exit) ∷ (now (eta .exit) ∷ []) ∷ (now (d .exit) ∷ []) ∷ [])
-        ≡ SocSetIdentityScaling (now (w .entry)) (now (u .entry)) (now (v .entry)) (now (eta .entry)) (now (d .entry)) ⌝ }
-{
-    let no = answers::refusal(2, w.len(), (u.len() == w.len()) & (v.len() == w.len()));
-    if no != 0 {
-        return Answer::Refused(no);
-    }
-    set_identity_scaling(w, u, v, eta, d);
-    Answer::Done
 }
 
 pub fn soc_update_scaling(

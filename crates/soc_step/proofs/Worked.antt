@@ -1,7 +1,7 @@
 -- Document 01's lines of the second-order step, computed: one statement over one list. Assumes nothing.
 use mathlib.Core.Path.{refl}
 use mathlib.Core.List.{List, [], _∷_}
-use mathlib.Core.Bool.{true, false}
+use mathlib.Core.Bool.{false}
 use lib.Ieee.{Float, nan, inf, neg, round, ofBits, lt, le, eq, isNan, add, sub, mul, div}
 use Rattle.extrema.specs.Extrema.{Picked, Least, Greatest}
 use Rattle.root.specs.Root.{Root}

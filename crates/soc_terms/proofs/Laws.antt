@@ -7,7 +7,7 @@ use lib.ListN.{length, length-drop}
 use lib.Ieee.{Float}
 use Rattle.vecmath.specs.Vector.{Scale, Axpby}
 use Rattle.vecmath.proofs.Loops.{length-each}
-use Rattle.soc_terms.specs.Terms.{Point, Normed, Lambda, SparseU, SparseV}
+use Rattle.soc_terms.specs.Terms.{Point, Normed, Lambda}
 
 module _ (n : ℕ) (some : 1 ≤ n) where
   pub length-point : (s z : List Float) (σ ζ : Float) → length z ≡ n → length (Point s z σ ζ) ≡ n
@@ -21,11 +21,3 @@ module _ (n : ℕ) (some : 1 ≤ n) where
   pub length-lambda : (s z : List Float) (σ ζ ω : Float) → length s ≡ n → length (Lambda s z σ ζ ω) ≡ n
   unfolding Lambda Scale Axpby
   length-lambda s z σ ζ ω e = simp (length-each, length-drop) (omega arith)
-
-  pub length-sparse-u : (w u : List Float) → length w ≡ n → length (SparseU w u) ≡ n
-  unfolding SparseU Axpby
-  length-sparse-u w u e = simp (length-each, length-drop) (omega arith)
-
-  pub length-sparse-v : (w v : List Float) → length w ≡ n → length (SparseV w v) ≡ n
-  unfolding SparseV Axpby
-  length-sparse-v w v e = simp (length-each, length-drop) (omega arith)

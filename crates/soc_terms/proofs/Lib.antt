@@ -1,2 +1,2 @@
--- `Laws`: lengths.
+-- `Laws`: lengths over n.
 pub mod Laws

@@ -3,7 +3,8 @@
 use conelist::Place;
 ghost use mathlib.Core.Path.{_≡_};
 ghost use mathlib.Core.List.{[], _∷_};
-ghost use Rattle.conecalls.specs.Calls.{MulWAt, UpdateScalingAt};
+ghost use Rattle.list_products.specs.Product.{MulWAt};
+ghost use Rattle.list_scaling.specs.Scaling.{UpdateScalingAt};
 ghost use Rattle.codes.specs.Code.{whole, export, Exported};
 ghost use Rattle.sweeps.specs.Numbers.{PlaceBy};
 

@@ -6,10 +6,10 @@ use lib.ListN.{length}
 use lib.Ieee.{Float, neg}
 use Rattle.vecmath.specs.Double.{𝟎, 𝟏}
 use Rattle.answers.specs.Refusal.{Same}
-use Rattle.soc_residual.proofs.Laws.{length-unit-shift}
+use Rattle.soc_units.proofs.Laws.{length-unit-shift}
 use Rattle.soc_products.proofs.Laws.{length-mul-w, length-mul-winv}
 use Rattle.soc_jordan.proofs.Laws.{length-circ}
-use Rattle.nn_scaling.proofs.Laws as unit
+use Rattle.nn_units.proofs.Laws as unit
 use Rattle.nn_products.proofs.Laws as entrywise
 use Rattle.nn_jordan.proofs.Laws as jordan
 use Rattle.symmetric_common.specs.Combined.{CombinedShift, NonnegCombinedShift}

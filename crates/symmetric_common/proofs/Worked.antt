@@ -1,12 +1,12 @@
 -- Worked examples of the definitions, computed: one statement over one list. Assumes nothing.
 use mathlib.Core.Path.{refl}
 use mathlib.Core.List.{List, [], _∷_}
-use lib.Ieee.{Float, nan, round, ofBits, add, sub, mul, div, neg}
+use lib.Ieee.{nan, round, ofBits, add, sub, mul, div, neg}
 use Rattle.vecmath.specs.Double.{𝟏}
 use Rattle.vecmath.specs.Vector.{Each, Fold, Dot, Axpby, Translate, Products}
 use Rattle.vecmath.proofs.Examples.{near, Line, _⇒_, Right}
 use Rattle.answers.specs.Outcome.{Contents}
-use Rattle.soc_residual.specs.Residual.{UnitShift}
+use Rattle.soc_units.specs.Units.{UnitShift}
 use Rattle.soc_products.specs.Product.{MulW, MulWinv}
 use Rattle.soc_jordan.specs.Jordan.{Circ}
 use Rattle.nn_products.specs.Products.{NonnegMulW, NonnegMulWinv}

@@ -7,10 +7,10 @@ use lib.Ieee.{Float, neg}
 use Rattle.vecmath.specs.Double.{𝟎, 𝟏}
 use Rattle.answers.specs.Refusal.{Refusal}
 use Rattle.answers.specs.Outcome.{done, Contents, Came, Call}
-use Rattle.soc_residual.specs.Residual.{UnitShift}
+use Rattle.soc_units.specs.Units.{UnitShift}
 use Rattle.soc_products.specs.Product.{MulW, MulWinv}
 use Rattle.soc_jordan.specs.Jordan.{Circ}
-use Rattle.nn_scaling.specs.Scaling.{NonnegShift}
+use Rattle.nn_units.specs.Units.{NonnegShift}
 use Rattle.nn_products.specs.Products.{NonnegMulW, NonnegMulWinv}
 use Rattle.nn_jordan.specs.Jordan.{NonnegCirc}
 

@@ -30,7 +30,7 @@ pub fn soc_combined(
     soc_products::mul_winv(step_s, shift, 1.0, 0.0, w, eta);
     // shift = W⁻¹Δs ∘ WΔz − σμ·e
     soc_jordan::circ_op(shift, step_s, step_z);
-    soc_residual::scaled_unit_shift(shift, -sigma_mu);
+    soc_units::scaled_unit_shift(shift, -sigma_mu);
 }
 
 pub fn soc_combined_ds_shift(
@@ -77,7 +77,7 @@ pub fn nn_combined(
     nn_products::mul_winv(step_s, shift, 1.0, 0.0, w);
     // shift = W⁻¹Δs ∘ WΔz − σμ·e
     nn_jordan::circ_op(shift, step_s, step_z);
-    nn_scaling::scaled_unit_shift(shift, -sigma_mu);
+    nn_units::scaled_unit_shift(shift, -sigma_mu);
 }
 
 pub fn nn_combined_ds_shift(

@@ -22,7 +22,7 @@ use Rattle.conelist.specs.Layout.{Dim, KindAt, Before, BadRecord, BadRecords, A
 use Rattle.conelist.specs.Walk.{noCone}
 use Rattle.conelist.proofs.Walked.{before-cons}
 use Rattle.conelist.proofs.Placed.{all-fit}
-use Rattle.conecalls.specs.List.{BadList, Entries, StepOfCone, ListStepLength}
+use Rattle.whole_step.specs.List.{BadList, Entries, StepOfCone, ListStepLength}
 use Rattle.whole_step.specs.declared.Walk.{Walk}
 use Rattle.whole_step.specs.Walk.{Opening, Taken, Short, Onward, Further, Closing}
 

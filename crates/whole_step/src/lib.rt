@@ -8,7 +8,7 @@ use conelist::Kind;
 ghost use mathlib.Core.Path.{_≡_};
 ghost use Rattle.answers.specs.Refusal.{_⊳_, Unlike, BadLimit};
 ghost use Rattle.answers.specs.Outcome.{toldSteps};
-ghost use Rattle.conecalls.specs.List.{ListStepLength};
+ghost use Rattle.whole_step.specs.List.{ListStepLength};
 ghost use Rattle.whole_step.specs.Walk.{Opening, Reached, Taken, Further, Closing};
 
 // A walk on its way: the refusal that it met (0: none), the entries behind it, and each side's least so far.

@@ -168,7 +168,7 @@ fn line_identity(of: &[u8], w: &mut [f64], u: &mut [f64], v: &mut [f64]) {
     show::label(of);
     let mut eta = 0.0;
     let mut d = 1.0;
-    match soc_scaling::soc_set_identity_scaling(w, u, v, &mut eta, &mut d) {
+    match soc_identity::soc_set_identity_scaling(w, u, v, &mut eta, &mut d) {
         Answer::Done => show::text(b"done"),
         Answer::Refused(no) => show::refused(no),
     }
@@ -177,32 +177,49 @@ fn line_identity(of: &[u8], w: &mut [f64], u: &mut [f64], v: &mut [f64]) {
     show::newline();
 }
 
+// The lines are told by numbers: the arrays that they are lent as are made in one place.
+fn residual(of: &[u8], a: f64, b: f64) {
+    line_residual(of, &[a, b]);
+}
+
 fn residuals() {
-    line_residual(b"residual of (-2, 0)", &[-2.0, 0.0]);
-    line_residual(b"residual of (5, 3)", &[5.0, 3.0]);
-    line_residual(b"residual of (3, -3)", &[3.0, -3.0]);
-    line_residual(b"residual of (1, 3)", &[1.0, 3.0]);
-    line_residual(b"residual of (1, NaN)", &[1.0, 0.0 / 0.0]);
+    residual(b"residual of (-2, 0)", -2.0, 0.0);
+    residual(b"residual of (5, 3)", 5.0, 3.0);
+    residual(b"residual of (3, -3)", 3.0, -3.0);
+    residual(b"residual of (1, 3)", 1.0, 3.0);
+    residual(b"residual of (1, NaN)", 1.0, 0.0 / 0.0);
     line_residual(b"residual of (1)", &[1.0]);
 }
 
+fn nn_standing(of: &[u8], a: f64, b: f64) {
+    line_nn_standing(of, &[a, b]);
+}
+
 fn standings() {
-    line_nn_standing(b"standing of (1, 2)", &[1.0, 2.0]);
-    line_nn_standing(b"standing of (1, -0)", &[1.0, -0.0]);
-    line_nn_standing(b"standing of (0, -1)", &[0.0, -1.0]);
-    line_nn_standing(b"standing of (-1, NaN)", &[-1.0, 0.0 / 0.0]);
+    nn_standing(b"standing of (1, 2)", 1.0, 2.0);
+    nn_standing(b"standing of (1, -0)", 1.0, -0.0);
+    nn_standing(b"standing of (0, -1)", 0.0, -1.0);
+    nn_standing(b"standing of (-1, NaN)", -1.0, 0.0 / 0.0);
+}
+
+fn scaling(of: &[u8], s0: f64, s1: f64, z0: f64, z1: f64) {
+    line_scaling(of, &[s0, s1], &[z0, z1]);
 }
 
 fn scalings() {
-    line_scaling(b"scale s (5, 3), z (5, -3)", &[5.0, 3.0], &[5.0, -3.0]);
-    line_scaling(b"scale s (2, 0), z (-2, 0)", &[2.0, 0.0], &[-2.0, 0.0]);
-    line_scaling(b"scale s = z = (-2, 0)", &[-2.0, 0.0], &[-2.0, 0.0]);
-    line_scaling(b"scale s (1, 1), z (5, -3)", &[1.0, 1.0], &[5.0, -3.0]);
+    scaling(b"scale s (5, 3), z (5, -3)", 5.0, 3.0, 5.0, -3.0);
+    scaling(b"scale s (2, 0), z (-2, 0)", 2.0, 0.0, -2.0, 0.0);
+    scaling(b"scale s = z = (-2, 0)", -2.0, 0.0, -2.0, 0.0);
+    scaling(b"scale s (1, 1), z (5, -3)", 1.0, 1.0, 5.0, -3.0);
     line_scaling(
         b"scale s (5, 3, 0), z (5, -3)",
         &[5.0, 3.0, 0.0],
         &[5.0, -3.0],
     );
+}
+
+fn nn_step(of: &[u8], x: f64, y: f64, limit: f64) {
+    line_nn_step(of, &[x], &[y], limit);
 }
 
 fn nonnegative_steps() {
@@ -212,9 +229,9 @@ fn nonnegative_steps() {
         &[-1.0, 2.0, -3.0],
         10.0,
     );
-    line_nn_step(b"(NaN) along (-1), limit 1", &[0.0 / 0.0], &[-1.0], 1.0);
-    line_nn_step(b"(-1) along (-1), limit 1", &[-1.0], &[-1.0], 1.0);
-    line_nn_step(b"(1) along (0), limit infinity", &[1.0], &[0.0], 1.0 / 0.0);
+    nn_step(b"(NaN) along (-1), limit 1", 0.0 / 0.0, -1.0, 1.0);
+    nn_step(b"(-1) along (-1), limit 1", -1.0, -1.0, 1.0);
+    nn_step(b"(1) along (0), limit infinity", 1.0, 0.0, 1.0 / 0.0);
     line_nn_step(
         b"(1) along (-1, 1), limit NaN",
         &[1.0],
@@ -223,47 +240,23 @@ fn nonnegative_steps() {
     );
 }
 
+fn soc_step(of: &[u8], x0: f64, x1: f64, y0: f64, y1: f64, limit: f64) {
+    line_soc_step(of, &[x0, x1], &[y0, y1], limit);
+}
+
 fn second_order_steps() {
-    line_soc_step(
-        b"(5, 0) along (0, 1), limit 10",
-        &[5.0, 0.0],
-        &[0.0, 1.0],
-        10.0,
-    );
-    line_soc_step(
-        b"(1, 0) along (-1, 1), limit 1",
-        &[1.0, 0.0],
-        &[-1.0, 1.0],
-        1.0,
-    );
-    line_soc_step(
-        b"(1, 1) along (0, -1), limit 1",
-        &[1.0, 1.0],
-        &[0.0, -1.0],
-        1.0,
-    );
-    line_soc_step(
-        b"(1, 2) along (0, 0), limit 7",
-        &[1.0, 2.0],
-        &[0.0, 0.0],
-        7.0,
-    );
-    line_soc_step(
-        b"(1, 0) along (1, 0), limit -0",
-        &[1.0, 0.0],
-        &[1.0, 0.0],
-        -0.0,
-    );
-    line_soc_step(
-        b"(1, 0) along (1, 0), limit -1",
-        &[1.0, 0.0],
-        &[1.0, 0.0],
-        -1.0,
-    );
-    line_soc_step(
+    soc_step(b"(5, 0) along (0, 1), limit 10", 5.0, 0.0, 0.0, 1.0, 10.0);
+    soc_step(b"(1, 0) along (-1, 1), limit 1", 1.0, 0.0, -1.0, 1.0, 1.0);
+    soc_step(b"(1, 1) along (0, -1), limit 1", 1.0, 1.0, 0.0, -1.0, 1.0);
+    soc_step(b"(1, 2) along (0, 0), limit 7", 1.0, 2.0, 0.0, 0.0, 7.0);
+    soc_step(b"(1, 0) along (1, 0), limit -0", 1.0, 0.0, 1.0, 0.0, -0.0);
+    soc_step(b"(1, 0) along (1, 0), limit -1", 1.0, 0.0, 1.0, 0.0, -1.0);
+    soc_step(
         b"(1, 0) along (1, 0), limit NaN",
-        &[1.0, 0.0],
-        &[1.0, 0.0],
+        1.0,
+        0.0,
+        1.0,
+        0.0,
         0.0 / 0.0,
     );
 }

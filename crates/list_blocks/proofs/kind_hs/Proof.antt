@@ -3,7 +3,7 @@ use native.Mathlib.Omega.{arith}
 use mathlib.Core.Path.{sym, ap, _∙_}
 use borrow.Author.Needs.{needs}
 use Rattle.soc_blocks.specs.Block.{BlockLength}
-use Rattle.conecalls.specs.Kinds.{KindHs}
+use Rattle.list_blocks.specs.Block.{KindHs}
 use Rattle.list_blocks.proofs.Laws.{nonnegative-block, second-order-block}
 use Rattle.list_blocks.proofs.kind_hs.Statement.{statement}
 use Rattle.list_blocks.proofs.kind_hs.Tie as tie

@@ -2,7 +2,7 @@
 use native.Mathlib.Omega.{arith}
 use borrow.Author.Needs.{needs}
 use Rattle.conelist.proofs.Placed.{two-least}
-use Rattle.conecalls.specs.Kinds.{KindCombined}
+use Rattle.list_combined.specs.Combined.{KindCombined}
 use Rattle.list_combined.proofs.kind_combined.Statement.{statement}
 use Rattle.list_combined.proofs.kind_combined.Tie as tie
 

@@ -2,7 +2,7 @@
 use native.Mathlib.Omega.{arith}
 use borrow.Author.Needs.{needs}
 use Rattle.conelist.proofs.Placed.{two-least}
-use Rattle.conecalls.specs.Kinds.{KindIdentity}
+use Rattle.list_identity.specs.Identity.{KindIdentity}
 use Rattle.list_identity.proofs.kind_identity.Statement.{statement}
 use Rattle.list_identity.proofs.kind_identity.Tie as tie
 

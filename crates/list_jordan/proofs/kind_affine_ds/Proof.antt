@@ -2,7 +2,7 @@
 use native.Mathlib.Omega.{arith}
 use borrow.Author.Needs.{needs}
 use Rattle.conelist.proofs.Placed.{two-least}
-use Rattle.conecalls.specs.Kinds.{KindAffineDs}
+use Rattle.list_jordan.specs.Jordan.{KindAffineDs}
 use Rattle.list_jordan.proofs.kind_affine_ds.Statement.{statement}
 use Rattle.list_jordan.proofs.kind_affine_ds.Tie as tie
 

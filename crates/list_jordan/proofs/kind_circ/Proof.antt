@@ -2,7 +2,7 @@
 use native.Mathlib.Omega.{arith}
 use borrow.Author.Needs.{needs}
 use Rattle.conelist.proofs.Placed.{two-least}
-use Rattle.conecalls.specs.Kinds.{KindCirc}
+use Rattle.list_jordan.specs.Jordan.{KindCirc}
 use Rattle.list_jordan.proofs.kind_circ.Statement.{statement}
 use Rattle.list_jordan.proofs.kind_circ.Tie as tie
 

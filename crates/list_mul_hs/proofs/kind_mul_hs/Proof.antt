@@ -2,7 +2,7 @@
 use native.Mathlib.Omega.{arith}
 use borrow.Author.Needs.{needs}
 use Rattle.conelist.proofs.Placed.{two-least}
-use Rattle.conecalls.specs.Kinds.{KindMulHs}
+use Rattle.list_mul_hs.specs.Block.{KindMulHs}
 use Rattle.list_mul_hs.proofs.kind_mul_hs.Statement.{statement}
 use Rattle.list_mul_hs.proofs.kind_mul_hs.Tie as tie
 

@@ -2,7 +2,7 @@
 use native.Mathlib.Omega.{arith}
 use borrow.Author.Needs.{needs}
 use Rattle.conelist.proofs.Placed.{two-least}
-use Rattle.conecalls.specs.Kinds.{KindOffset}
+use Rattle.list_offset.specs.Offset.{KindOffset}
 use Rattle.list_offset.proofs.kind_offset.Statement.{statement}
 use Rattle.list_offset.proofs.kind_offset.Tie as tie
 

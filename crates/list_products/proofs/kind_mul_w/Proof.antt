@@ -2,7 +2,7 @@
 use native.Mathlib.Omega.{arith}
 use borrow.Author.Needs.{needs}
 use Rattle.conelist.proofs.Placed.{two-least}
-use Rattle.conecalls.specs.Kinds.{KindMulW}
+use Rattle.list_products.specs.Product.{KindMulW}
 use Rattle.list_products.proofs.kind_mul_w.Statement.{statement}
 use Rattle.list_products.proofs.kind_mul_w.Tie as tie
 

@@ -2,7 +2,7 @@
 use native.Mathlib.Omega.{arith}
 use borrow.Author.Needs.{needs}
 use Rattle.conelist.proofs.Placed.{two-least}
-use Rattle.conecalls.specs.Kinds.{KindScaling}
+use Rattle.list_scaling.specs.Scaling.{KindScaling}
 use Rattle.list_scaling.proofs.kind_scaling.Statement.{statement}
 use Rattle.list_scaling.proofs.kind_scaling.Tie as tie
 

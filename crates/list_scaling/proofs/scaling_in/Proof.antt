@@ -1,7 +1,6 @@
 -- `list_scaling::scaling_in` meets its contract. Assumes nothing.
 use mathlib.Core.Path.{refl}
 use mathlib.Core.List.{[], _∷_}
-use native.Mathlib.Omega.{arith}
 use borrow.Author.Needs.{needs}
 use Rattle.conelist.proofs.Placed.{lent}
 use Rattle.conecalls.specs.At.{entries, number}

@@ -2,7 +2,7 @@
 use native.Mathlib.Omega.{arith}
 use borrow.Author.Needs.{needs}
 use Rattle.conelist.proofs.Placed.{two-least}
-use Rattle.conecalls.specs.Kinds.{KindStepBy}
+use Rattle.list_step.specs.Step.{KindStepBy}
 use Rattle.list_step.proofs.kind_step_length.Statement.{statement}
 use Rattle.list_step.proofs.kind_step_length.Tie as tie
 

@@ -2,7 +2,7 @@
 use native.Mathlib.Omega.{arith}
 use borrow.Author.Needs.{needs}
 use Rattle.conelist.proofs.Placed.{two-least}
-use Rattle.conecalls.specs.Kinds.{KindUnit}
+use Rattle.list_units.specs.Units.{KindUnit}
 use Rattle.list_units.proofs.kind_unit.Statement.{statement}
 use Rattle.list_units.proofs.kind_unit.Tie as tie
 

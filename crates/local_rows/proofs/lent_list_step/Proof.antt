@@ -44,7 +44,7 @@ use Rattle.answers.proofs.Steps as R
 use Rattle.conelist.specs.declared.Cone.{Cone}
 use Rattle.conelist.proofs.Forward.{known-usize, known-f64, known-floats, known-steps}
 use Rattle.conelist.proofs.Cone as T
-use Rattle.conecalls.specs.List.{ListStepLength}
+use Rattle.whole_step.specs.List.{ListStepLength}
 use Rattle.whole_step.proofs.list_step_length as step
 use Rattle.whole_step.proofs.list_step_length.Symbol as step-def
 use Rattle.whole_step.proofs.list_step_length.Symbol.{name as #step}

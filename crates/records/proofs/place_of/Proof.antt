@@ -1,6 +1,5 @@
 -- `records::place_of` meets its contract: behind i records it stands where the walk over document 01's list does. Assumes nothing.
 use Prim.Native.Nat.{_-_}
-use native.Mathlib.Omega.{arith}
 use lib.ListN.{length}
 use borrow.Author.Needs.{needs}
 use Rattle.records.proofs.Laws.{Behind, behind-start, behind-going, behind-step, behind-end}

@@ -1,0 +1,30 @@
+// The inverse of the Jordan product of one cone of a list, and the same by lambda (document 01; source documents 000 and 001), over the row
+// of records.
+use answers::Answer;
+use conelist::Cone;
+ghost use mathlib.Core.Path.{_≡_};
+ghost use mathlib.Core.List.{[], _∷_};
+ghost use Rattle.answers.specs.Outcome.{told};
+ghost use Rattle.conelist.specs.Layout.{PlaceOf};
+ghost use Rattle.list_inverse.specs.Inverse.{InvCircOpAt, LambdaInvCircOpAt};
+
+pub fn inv_circ_op(list: &[Cone], k: usize, x: &mut [f64], y: &[f64], z: &[f64]) -> Answer
+    ensures { λ r. ⌜ told r (now (x .exit) ∷ []) ≡ InvCircOpAt (PlaceOf (now (list .entry)) k) (now (x .entry)) (now (y .entry)) (now (z .entry)) ⌝ }
+{
+    let p = conelist::place_of(list, k);
+    list_inverse::inv_circ_op_at(p, x, y, z)
+}
+
+pub fn lambda_inv_circ_op(
+    list: &[Cone],
+    k: usize,
+    x: &mut [f64],
+    z: &[f64],
+    lambda: &[f64],
+) -> Answer
+    ensures { λ r. ⌜ told r (now (x .exit) ∷ [])
+        ≡ LambdaInvCircOpAt (PlaceOf (now (list .entry)) k) (now (x .entry)) (now (z .entry)) (now (lambda .entry)) ⌝ }
+{
+    let p = conelist::place_of(list, k);
+    list_inverse::lambda_inv_circ_op_at(p, x, z, lambda)
+}

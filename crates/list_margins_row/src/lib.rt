@@ -1,0 +1,14 @@
+// Margins of one cone of a list (document 01; source documents 000 and 001), over the row of records.
+use answers::Margins;
+use conelist::Cone;
+ghost use mathlib.Core.Path.{_≡_};
+ghost use Rattle.answers.specs.Outcome.{toldMargins};
+ghost use Rattle.conelist.specs.Layout.{PlaceOf};
+ghost use Rattle.list_margins.specs.Margins.{MarginsAt};
+
+pub fn margins(list: &[Cone], k: usize, z: &[f64]) -> Margins
+    ensures { λ r. ⌜ toldMargins r ≡ MarginsAt (PlaceOf (now (list .entry)) k) (now (z .entry)) ⌝ }
+{
+    let p = conelist::place_of(list, k);
+    list_margins::margins_at(p, z)
+}

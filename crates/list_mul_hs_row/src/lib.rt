@@ -1,0 +1,16 @@
+// Products with Hs of one cone of a list (document 01; source documents 000 and 001), over the row of records.
+use answers::Answer;
+use conelist::Cone;
+ghost use mathlib.Core.Path.{_≡_};
+ghost use mathlib.Core.List.{[], _∷_};
+ghost use Rattle.answers.specs.Outcome.{told};
+ghost use Rattle.conelist.specs.Layout.{PlaceOf};
+ghost use Rattle.list_mul_hs.specs.Block.{MulHsAt};
+
+pub fn mul_hs(list: &[Cone], k: usize, y: &mut [f64], x: &[f64], w: &[f64], eta: &[f64]) -> Answer
+    ensures { λ r. ⌜ told r (now (y .exit) ∷ [])
+        ≡ MulHsAt (PlaceOf (now (list .entry)) k) (now (y .entry)) (now (x .entry)) (now (w .entry)) (now (eta .entry)) ⌝ }
+{
+    let p = conelist::place_of(list, k);
+    list_mul_hs::mul_hs_at(p, y, x, w, eta)
+}

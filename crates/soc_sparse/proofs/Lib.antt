@@ -1,0 +1,2 @@
+-- `Laws`: lengths over n.
+pub mod Laws

@@ -1,0 +1,11 @@
+-- Each public call's contract leaves one answer and one final contents of what it was lent. Assumes nothing.
+use mathlib.Core.Path.{_≡_}
+use mathlib.Core.List.{List}
+use lib.Ieee.{Float}
+use Rattle.answers.specs.declared.Square.{Square}
+use Rattle.answers.specs.Outcome.{toldSquare}
+use Rattle.answers.proofs.Unique.{one-square}
+use Rattle.soc_square.specs.Square.{SocSquareHs}
+
+soc-square-hs : {r r′ : Square} (w : List Float) (η : Float) → toldSquare r ≡ SocSquareHs w η → toldSquare r′ ≡ SocSquareHs w η → r ≡ r′
+soc-square-hs w η = one-square
