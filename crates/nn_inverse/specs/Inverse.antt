@@ -9,7 +9,7 @@ use Rattle.vecmath.specs.Vector.{Quotients}
 
 -- ---- the values
 
--- its inverse, z/y (_inv_circ_op); by lambda it is z/λ (λ_inv_circ_op)
+-- the Jordan product's inverse, z/y (_inv_circ_op); by lambda it is z/λ (λ_inv_circ_op)
 abbrev pub NonnegInvCirc : List Float → List Float → List Float
 NonnegInvCirc y z = Quotients z y
 

@@ -12,7 +12,7 @@ use Rattle.soc_residual.specs.Residual.{Residual}
 
 -- ---- the values
 
--- its inverse: the x whose product with y is z (_inv_circ_op)
+-- the Jordan product's inverse: the x whose product with y is z (_inv_circ_op)
 unfoldable pub InvCirc : (y z : List Float) → List Float
 InvCirc y z =
     let p⁻¹ = 𝟏 ⊘ Residual y in

@@ -16,7 +16,7 @@ use Rattle.soc_identity.specs.Identity.{Sparse}
 abbrev pub Stored : (w lambda u v : List Float) (η d : Float) → Contents
 Stored w lambda u v η d = w ∷ lambda ∷ u ∷ v ∷ (η ∷ []) ∷ (d ∷ []) ∷ []
 
--- ---- scaling, with ζ, σ and ω the root scales of z, s and w; w, lambda and the sparse terms are of soc_terms
+-- ---- scaling, with ζ, σ and ω the root scales of z, s and w; w and lambda are of soc_terms, the sparse terms of soc_sparse
 
 -- A late false, where the root scale of w is zero: η and w are written, the rest is kept.
 abbrev pub LateFalse : (w lambda u v : List Float) (η d : Float) (w′ : List Float) (η′ : Float) → Does
