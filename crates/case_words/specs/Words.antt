@@ -1,16 +1,12 @@
--- What the words of a line say behind the first five (docs/CASES.md): its row of records, and its slices. Assumes nothing.
-use Prim.Native.Nat.{ℕ, _+_, _-_, _*_}
+-- What the words of a line say behind the row of records (docs/CASES.md): its slices. Assumes nothing.
+use Prim.Native.Nat.{ℕ, _+_, _-_}
 use mathlib.Core.Bool.{cond}
-use mathlib.Core.List.{List, [], _∷_, _++_}
+use mathlib.Core.List.{List, _++_}
 use lib.Dec.{ltb, leb, eqb}
 use lib.ListN.{length, getD, drop}
 use lib.Ieee.{Float, binary64, ofBits}
 use Rattle.vecmath.specs.Vector.{Each}
 use Rattle.case_words.specs.declared.Cut.{Cut}
-
--- n records, each of three words, and behind them what was there
-unfoldable pub Records : List ℕ → (n : ℕ) → List (List ℕ) → List (List ℕ)
-Records words n y = Each n (λ i. getD words (3 * i) 0 ∷ getD words (3 * i + 1) 0 ∷ getD words (3 * i + 2) 0 ∷ []) ++ drop n y
 
 -- n doubles, each by its bits from `from` on, and behind them what was there
 unfoldable pub Numbers : List ℕ → (from n : ℕ) → List Float → List Float
@@ -26,13 +22,6 @@ pub record Put (A : Type 0) : Type 0 where
 
 abbrev pub Stopped : {A : Type 0} → ℕ → List A → Put A
 Stopped fault y = record { cut = Stop fault; holds = y }
-
--- a row of n records: 8, over 260; 6, words are missing
-unfoldable pub Row : (n : ℕ) → List ℕ → List (List ℕ) → Put (List ℕ)
-Row n words y =
-    cond (ltb 260 n) (Stopped 8 y)
-    (cond (ltb (length words) (3 * n)) (Stopped 6 y)
-    (record { cut = record { at = 3 * n; length = n; fault = 0 }; holds = Records words n y }))
 
 -- a slice, its length and its entries: 6, words are missing; 7, over 64 entries
 unfoldable pub Slice : (at : ℕ) → List ℕ → List Float → Put Float

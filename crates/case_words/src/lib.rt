@@ -1,13 +1,13 @@
-// What the words of a recorded case say (docs/CASES.md): its row of records, and its slices. Of our own; nothing is ported.
+// What the words of a recorded case say behind its row (docs/CASES.md): its slices. Of our own; nothing is ported.
 //
 // What is wrong with them is told by a number: 6 words that are missing, 7 a slice of over 64 entries, 8 a row of over 260 records, 9 words
 // that are left over.
 ghost use mathlib.Core.Path.{_≡_};
-ghost use Prim.Native.Nat.{_<_, _≤_, _+_, _*_};
+ghost use Prim.Native.Nat.{_≤_, _+_};
 ghost use lib.ListN.{length};
 ghost use lib.Ieee.{binary64, ofBits};
 ghost use Rattle.cases.specs.Text.{Counts};
-ghost use Rattle.case_words.specs.Words.{Numbers, Records, Stop, Row, Slice, Behind, Left};
+ghost use Rattle.case_words.specs.Words.{Numbers, Stop, Slice, Behind, Left};
 
 // A case but for its row and its slices: the call's number, and its numbers.
 pub struct Head {
@@ -23,30 +23,13 @@ pub struct Cut {
     pub fault: u8,
 }
 
-fn stop(fault: u8) -> Cut
+pub fn stop(fault: u8) -> Cut
     ensures { λ r. ⌜ r ≡ Stop fault ⌝ }
 {
     Cut {
         at: 0,
         length: 0,
         fault,
-    }
-}
-
-// n records of three words.
-fn records(words: &[u64], n: usize, out: &mut [[usize; 3]])
-    requires { ⌜ (3 * n ≤ length (now words)) × (n ≤ length (now out)) ⌝ }
-    ensures { λ _. ⌜ now (out .exit) ≡ Records (now (words .entry)) n (now (out .entry)) ⌝ }
-{
-    let mut i = 0;
-    while i < n {
-        let at = 3 * i;
-        out[i] = [
-            words[at] as usize,
-            words[at + 1] as usize,
-            words[at + 2] as usize,
-        ];
-        i += 1;
     }
 }
 
@@ -69,25 +52,6 @@ fn numbers(words: &[u64], from: usize, n: usize, out: &mut [f64])
     while i < n {
         out[i] = double(words[from + i]);
         i += 1;
-    }
-}
-
-// A row of n records, with which the words begin.
-pub fn row(n: usize, words: &[u64], out: &mut [[usize; 3]; 260]) -> Cut
-    ensures { λ r. ⌜ record { cut = r; holds = now (out .exit) } ≡ Row n (now (words .entry)) (now (out .entry)) ⌝ }
-    ensures { λ r. ⌜ Counts (r .length) (now (out .exit)) ⌝ }
-{
-    if 260 < n {
-        return stop(8);
-    }
-    if words.len() < 3 * n {
-        return stop(6);
-    }
-    records(words, n, out);
-    Cut {
-        at: 3 * n,
-        length: n,
-        fault: 0,
     }
 }
 

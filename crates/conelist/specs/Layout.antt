@@ -90,7 +90,7 @@ PlaceOf cs k = Found (BadPlace cs k) (Row cs k)
 -- ---- a place that is handed to a call: it may be one that no list gives
 
 -- 4 too, for such a place: its dimension is outside its range, its entries or its block lie past the end, or its index is not below the
--- count. A place that `PlaceOf` gives is never refused so: proofs/Laid, `spot`
+-- count. A place that `PlaceOf` gives is never refused so: `spot`, crates/conewalk/proofs/Laid
 unfoldable pub Misplaced : Place → ℕ
 Misplaced p =
     let n = Dim (p .kind) in

@@ -1,3 +1,2 @@
--- `Layout`: document 01's list, where each cone lies, and its refusals. `Walk`: how `place` goes over the records.
+-- `Layout`: document 01's list, where each cone lies, and its refusals.
 pub mod Layout
-pub mod Walk

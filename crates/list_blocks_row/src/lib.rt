@@ -11,6 +11,6 @@ pub fn get_hs(list: &[Cone], k: usize, hs: &mut [f64], w: &[f64], eta: &[f64], d
     ensures { λ r. ⌜ told r (now (hs .exit) ∷ [])
         ≡ GetHsAt (PlaceOf (now (list .entry)) k) (now (hs .entry)) (now (w .entry)) (now (eta .entry)) (now (d .entry)) ⌝ }
 {
-    let p = conelist::place_of(list, k);
+    let p = conewalk::place_of(list, k);
     list_blocks::get_hs_at(p, hs, w, eta, d)
 }

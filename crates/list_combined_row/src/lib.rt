@@ -21,6 +21,6 @@ pub fn combined_ds_shift(
         ≡ CombinedDsShiftAt (PlaceOf (now (list .entry)) k) (now (shift .entry)) (now («step_z» .entry)) (now («step_s» .entry)) «sigma_mu»
         (now (w .entry)) (now (eta .entry)) ⌝ }
 {
-    let p = conelist::place_of(list, k);
+    let p = conewalk::place_of(list, k);
     list_combined::combined_ds_shift_at(p, shift, step_z, step_s, sigma_mu, w, eta)
 }

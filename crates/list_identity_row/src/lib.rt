@@ -20,6 +20,6 @@ pub fn set_identity_scaling(
         ≡ SetIdentityScalingAt (PlaceOf (now (list .entry)) k) (now (w .entry)) (now (u .entry)) (now (v .entry)) (now (eta .entry))
         (now (d .entry)) ⌝ }
 {
-    let p = conelist::place_of(list, k);
+    let p = conewalk::place_of(list, k);
     list_identity::set_identity_scaling_at(p, w, u, v, eta, d)
 }

@@ -11,7 +11,7 @@ ghost use Rattle.list_inverse.specs.Inverse.{InvCircOpAt, LambdaInvCircOpAt};
 pub fn inv_circ_op(list: &[Cone], k: usize, x: &mut [f64], y: &[f64], z: &[f64]) -> Answer
     ensures { λ r. ⌜ told r (now (x .exit) ∷ []) ≡ InvCircOpAt (PlaceOf (now (list .entry)) k) (now (x .entry)) (now (y .entry)) (now (z .entry)) ⌝ }
 {
-    let p = conelist::place_of(list, k);
+    let p = conewalk::place_of(list, k);
     list_inverse::inv_circ_op_at(p, x, y, z)
 }
 
@@ -25,6 +25,6 @@ pub fn lambda_inv_circ_op(
     ensures { λ r. ⌜ told r (now (x .exit) ∷ [])
         ≡ LambdaInvCircOpAt (PlaceOf (now (list .entry)) k) (now (x .entry)) (now (z .entry)) (now (lambda .entry)) ⌝ }
 {
-    let p = conelist::place_of(list, k);
+    let p = conewalk::place_of(list, k);
     list_inverse::lambda_inv_circ_op_at(p, x, z, lambda)
 }

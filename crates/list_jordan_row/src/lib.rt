@@ -10,13 +10,13 @@ ghost use Rattle.list_jordan.specs.Jordan.{CircOpAt, AffineDsAt};
 pub fn circ_op(list: &[Cone], k: usize, x: &mut [f64], y: &[f64], z: &[f64]) -> Answer
     ensures { λ r. ⌜ told r (now (x .exit) ∷ []) ≡ CircOpAt (PlaceOf (now (list .entry)) k) (now (x .entry)) (now (y .entry)) (now (z .entry)) ⌝ }
 {
-    let p = conelist::place_of(list, k);
+    let p = conewalk::place_of(list, k);
     list_jordan::circ_op_at(p, x, y, z)
 }
 
 pub fn affine_ds(list: &[Cone], k: usize, ds: &mut [f64], lambda: &[f64]) -> Answer
     ensures { λ r. ⌜ told r (now (ds .exit) ∷ []) ≡ AffineDsAt (PlaceOf (now (list .entry)) k) (now (ds .entry)) (now (lambda .entry)) ⌝ }
 {
-    let p = conelist::place_of(list, k);
+    let p = conewalk::place_of(list, k);
     list_jordan::affine_ds_at(p, ds, lambda)
 }

@@ -9,6 +9,6 @@ ghost use Rattle.list_margins.specs.Margins.{MarginsAt};
 pub fn margins(list: &[Cone], k: usize, z: &[f64]) -> Margins
     ensures { λ r. ⌜ toldMargins r ≡ MarginsAt (PlaceOf (now (list .entry)) k) (now (z .entry)) ⌝ }
 {
-    let p = conelist::place_of(list, k);
+    let p = conewalk::place_of(list, k);
     list_margins::margins_at(p, z)
 }

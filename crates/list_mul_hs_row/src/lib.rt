@@ -11,6 +11,6 @@ pub fn mul_hs(list: &[Cone], k: usize, y: &mut [f64], x: &[f64], w: &[f64], eta:
     ensures { λ r. ⌜ told r (now (y .exit) ∷ [])
         ≡ MulHsAt (PlaceOf (now (list .entry)) k) (now (y .entry)) (now (x .entry)) (now (w .entry)) (now (eta .entry)) ⌝ }
 {
-    let p = conelist::place_of(list, k);
+    let p = conewalk::place_of(list, k);
     list_mul_hs::mul_hs_at(p, y, x, w, eta)
 }

@@ -20,6 +20,6 @@ pub fn ds_from_dz_offset(
     ensures { λ r. ⌜ told r (now (out .exit) ∷ []) ≡ DsFromDzOffsetAt (PlaceOf (now (list .entry)) k) (now (out .entry)) (now (ds .entry)) (now (z .entry))
         (now (w .entry)) (now (lambda .entry)) (now (eta .entry)) ⌝ }
 {
-    let p = conelist::place_of(list, k);
+    let p = conewalk::place_of(list, k);
     list_offset::ds_from_dz_offset_at(p, out, ds, z, w, lambda, eta)
 }

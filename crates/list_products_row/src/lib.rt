@@ -21,7 +21,7 @@ pub fn mul_w(
     ensures { λ r. ⌜ told r (now (y .exit) ∷ [])
         ≡ MulWAt (PlaceOf (now (list .entry)) k) (now (y .entry)) (now (x .entry)) alpha beta (now (w .entry)) (now (eta .entry)) ⌝ }
 {
-    let p = conelist::place_of(list, k);
+    let p = conewalk::place_of(list, k);
     list_products::mul_w_at(p, y, x, alpha, beta, w, eta)
 }
 
@@ -38,6 +38,6 @@ pub fn mul_winv(
     ensures { λ r. ⌜ told r (now (y .exit) ∷ [])
         ≡ MulWinvAt (PlaceOf (now (list .entry)) k) (now (y .entry)) (now (x .entry)) alpha beta (now (w .entry)) (now (eta .entry)) ⌝ }
 {
-    let p = conelist::place_of(list, k);
+    let p = conewalk::place_of(list, k);
     list_mul_winv::mul_winv_at(p, y, x, alpha, beta, w, eta)
 }

@@ -24,6 +24,6 @@ pub fn update_scaling(
         ≡ UpdateScalingAt (PlaceOf (now (list .entry)) k) (now (s .entry)) (now (z .entry)) (now (w .entry)) (now (lambda .entry))
         (now (u .entry)) (now (v .entry)) (now (eta .entry)) (now (d .entry)) ⌝ }
 {
-    let p = conelist::place_of(list, k);
+    let p = conewalk::place_of(list, k);
     list_scaling::update_scaling_at(p, s, z, w, lambda, u, v, eta, d)
 }

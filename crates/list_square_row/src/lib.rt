@@ -9,6 +9,6 @@ ghost use Rattle.list_square.specs.Square.{SquareHsAt};
 pub fn square_hs(list: &[Cone], k: usize, w: &[f64], eta: &[f64]) -> Square
     ensures { λ r. ⌜ toldSquare r ≡ SquareHsAt (PlaceOf (now (list .entry)) k) (now (w .entry)) (now (eta .entry)) ⌝ }
 {
-    let p = conelist::place_of(list, k);
+    let p = conewalk::place_of(list, k);
     list_square::square_hs_at(p, w, eta)
 }

@@ -9,6 +9,6 @@ ghost use Rattle.list_standing.specs.Standing.{StandingAt};
 pub fn standing(list: &[Cone], k: usize, z: &[f64]) -> Stands
     ensures { λ r. ⌜ toldStands r ≡ StandingAt (PlaceOf (now (list .entry)) k) (now (z .entry)) ⌝ }
 {
-    let p = conelist::place_of(list, k);
+    let p = conewalk::place_of(list, k);
     list_standing::standing_at(p, z)
 }

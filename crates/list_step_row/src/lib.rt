@@ -17,6 +17,6 @@ pub fn step_length(
 ) -> Steps
     ensures { λ r. ⌜ toldSteps r ≡ StepLengthAt (PlaceOf (now (list .entry)) k) (now (dz .entry)) (now (ds .entry)) (now (z .entry)) (now (s .entry)) limit ⌝ }
 {
-    let p = conelist::place_of(list, k);
+    let p = conewalk::place_of(list, k);
     list_step::step_length_at(p, dz, ds, z, s, limit)
 }

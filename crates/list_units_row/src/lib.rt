@@ -10,13 +10,13 @@ ghost use Rattle.list_units.specs.Units.{ScaledUnitShiftAt, UnitInitializationA
 pub fn scaled_unit_shift(list: &[Cone], k: usize, z: &mut [f64], alpha: f64) -> Answer
     ensures { λ r. ⌜ told r (now (z .exit) ∷ []) ≡ ScaledUnitShiftAt (PlaceOf (now (list .entry)) k) (now (z .entry)) alpha ⌝ }
 {
-    let p = conelist::place_of(list, k);
+    let p = conewalk::place_of(list, k);
     list_units::scaled_unit_shift_at(p, z, alpha)
 }
 
 pub fn unit_initialization(list: &[Cone], k: usize, z: &mut [f64], s: &mut [f64]) -> Answer
     ensures { λ r. ⌜ told r (now (z .exit) ∷ now (s .exit) ∷ []) ≡ UnitInitializationAt (PlaceOf (now (list .entry)) k) (now (z .entry)) (now (s .entry)) ⌝ }
 {
-    let p = conelist::place_of(list, k);
+    let p = conewalk::place_of(list, k);
     list_units::unit_initialization_at(p, z, s)
 }

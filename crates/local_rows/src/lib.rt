@@ -25,7 +25,7 @@ fn lent_place(list: [Cone; 257], cones: usize, k: usize) -> Place
     requires { ⌜ cones ≤ 257 ⌝ }
     ensures { λ r. ⌜ r ≡ PlaceOf (take cones list) k ⌝ }
 {
-    conelist::place_of(&list[..cones], k)
+    conewalk::place_of(&list[..cones], k)
 }
 
 pub fn place_in(list: [Cone; 257], cones: usize, k: usize) -> Place

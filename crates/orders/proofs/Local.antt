@@ -19,7 +19,7 @@ use Rattle.conelist.specs.declared.Kind.{Kind}
 use Rattle.conelist.specs.declared.Cone.{Cone}
 use Rattle.conelist.specs.declared.Place.{Place}
 use Rattle.conelist.specs.Layout.{Dim, LeastDim, BlockDim, KindAt, Before, BadPlace, Row, PlaceOf, Misplaced, Spot, AllFit, Fits, Part}
-use Rattle.conelist.proofs.Laid as listing
+use Rattle.conewalk.proofs.Laid as listing
 use Rattle.conelist.proofs.Placed.{open-at}
 use Rattle.conecalls.specs.At.{Use, entries, number, block, Wide, Own, Back, Backs, First}
 use Rattle.orders.specs.Local.{Name, Store, Name-discrete, UseOf, Long, Start, Lend, Pick, Gives, Deed, Refused, ComesTo, Answer, After}

@@ -9,8 +9,8 @@ use lib.Seq.{drop-cons}
 use Rattle.conelist.specs.declared.Place.{Place}
 use Rattle.conelist.specs.declared.Cone.{Cone}
 use Rattle.conelist.specs.Layout.{PlaceOf}
-use Rattle.conelist.specs.Walk.{Opening, StepOf, FoldFrom, Closing, Going}
-use Rattle.conelist.proofs.Walked.{Along, along-start, along-step, walked}
+use Rattle.conewalk.specs.Walk.{Opening, StepOf, FoldFrom, Closing, Going}
+use Rattle.conewalk.proofs.Walked.{Along, along-start, along-step, walked}
 use Rattle.records.specs.Record.{ConeOf, Cones}
 
 pub record Behind (list : List (List ℕ)) (k i : ℕ) (p : Place) : Type 0 where

@@ -8,7 +8,7 @@ use lib.ListN.{length, getD}
 use lib.Ieee.{Float}
 use Rattle.answers.specs.Outcome.{Came}
 use Rattle.conelist.specs.declared.Cone.{Cone}
-use Rattle.conelist.specs.Walk.{noCone}
+use Rattle.conewalk.specs.Walk.{noCone}
 use Rattle.whole_step.specs.List.{ListStepLength}
 use Rattle.whole_step.specs.declared.Walk.{Walk}
 use Rattle.whole_step.specs.Walk.{Opening, Further, Closing}

@@ -137,7 +137,7 @@ fn case(words: &[u64]) -> u8 {
     };
     let rest = &words[5..];
     let mut held = [[0; 3]; 260];
-    let cut = case_words::row(words[4] as usize, rest, &mut held);
+    let cut = case_rows::row(words[4] as usize, rest, &mut held);
     if cut.fault != 0 {
         return cut.fault;
     }

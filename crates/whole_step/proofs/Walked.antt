@@ -19,8 +19,8 @@ use Rattle.answers.proofs.Laws.{clear-both, clear-lengths, first-left, lengths-
 use Rattle.ordering.proofs.Listed.{list-loop}
 use Rattle.conelist.specs.declared.Cone.{Cone}
 use Rattle.conelist.specs.Layout.{Dim, KindAt, Before, BadRecord, BadRecords, AllFit}
-use Rattle.conelist.specs.Walk.{noCone}
-use Rattle.conelist.proofs.Walked.{before-cons}
+use Rattle.conewalk.specs.Walk.{noCone}
+use Rattle.conewalk.proofs.Walked.{before-cons}
 use Rattle.conelist.proofs.Placed.{all-fit}
 use Rattle.whole_step.specs.List.{BadList, Entries, StepOfCone, ListStepLength}
 use Rattle.whole_step.specs.declared.Walk.{Walk}

@@ -63,7 +63,7 @@ pub fn further(w: Walk, c: Cone, dz: &[f64], ds: &[f64], z: &[f64], s: &[f64], l
         return w;
     }
     let total = w.total;
-    let no = conelist::record_refusal(total, c);
+    let no = conewalk::record_refusal(total, c);
     if no != 0 {
         return Walk {
             no,

@@ -261,11 +261,14 @@ fn second_order_steps() {
     );
 }
 
-fn edges() {
+fn second_order_edges() {
     line_soc_step(b"dimension 1", &[1.0], &[1.0], 1.0);
     line_soc_step(b"dimension 2", &[1.0; 2], &[0.0; 2], 1.0);
     line_soc_step(b"dimension 4,096", &[1.0; 4096], &[0.0; 4096], 1.0);
     line_soc_step(b"dimension 4,097", &[1.0; 4097], &[0.0; 4097], 1.0);
+}
+
+fn nonnegative_edges() {
     line_nn_step(b"nonnegative dimension 0", &[1.0; 0], &[1.0; 0], 1.0);
     line_nn_step(
         b"nonnegative dimension 4,096",
@@ -279,6 +282,9 @@ fn edges() {
         &[0.0; 4097],
         1.0,
     );
+}
+
+fn sparse_edge() {
     line_identity(
         b"identity at 4, dense",
         &mut [0.0; 4],
@@ -302,5 +308,7 @@ fn main() {
     scalings();
     nonnegative_steps();
     second_order_steps();
-    edges();
+    second_order_edges();
+    nonnegative_edges();
+    sparse_edge();
 }

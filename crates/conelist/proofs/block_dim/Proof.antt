@@ -2,7 +2,7 @@
 use native.Mathlib.Omega.{arith}
 use borrow.Author.Needs.{needs}
 use borrow.Author.Tests.{le-ltb, lt-ltb}
-use Rattle.conelist.proofs.Records.{triangle}
+use Rattle.conelist.proofs.Blocks.{triangle}
 use Rattle.conelist.proofs.block_dim.Statement.{statement}
 use Rattle.conelist.proofs.block_dim.Tie as tie
 

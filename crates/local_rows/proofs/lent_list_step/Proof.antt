@@ -42,7 +42,7 @@ use Rattle.answers.specs.Outcome.{toldSteps}
 use Rattle.answers.specs.declared.Steps.{Steps}
 use Rattle.answers.proofs.Steps as R
 use Rattle.conelist.specs.declared.Cone.{Cone}
-use Rattle.conelist.proofs.Forward.{known-usize, known-f64, known-floats, known-steps}
+use Rattle.conewalk.proofs.Forward.{known-usize, known-f64, known-floats, known-steps}
 use Rattle.conelist.proofs.Cone as T
 use Rattle.whole_step.specs.List.{ListStepLength}
 use Rattle.whole_step.proofs.list_step_length as step

@@ -43,10 +43,10 @@ use Rattle.conelist.specs.declared.Cone.{Cone}
 use Rattle.conelist.proofs.Cone as T
 use Rattle.conelist.proofs.Place as S
 use Rattle.conelist.proofs.Place.Laws as S′
-use Rattle.conelist.proofs.place_of as place-of
-use Rattle.conelist.proofs.place_of.Symbol as place-of-def
-use Rattle.conelist.proofs.place_of.Symbol.{name as #conelist·place-of}
-use Rattle.conelist.proofs.place_of.Met as place-of-thm
+use Rattle.conewalk.proofs.place_of as place-of
+use Rattle.conewalk.proofs.place_of.Symbol as place-of-def
+use Rattle.conewalk.proofs.place_of.Symbol.{name as #conewalk·place-of}
+use Rattle.conewalk.proofs.place_of.Met as place-of-thm
 use Rattle.local_rows.proofs.Lend.{rowVal, rowTy, lentRow, known-row, Waits, Own, lends, comes-home}
 use Rattle.local_rows.proofs.lent_place.Key.{name as #lent-place}
 use Rattle.local_rows.proofs.lent_place as f
@@ -93,7 +93,7 @@ module _ {M : Type 1} (𝓤 : URA M) (H : Heap 𝓤) (A : Atoms 𝓤) (W : Given
           qed W (‵ (S.the-row .own r (u ∷ [])) ∷ []) ∵ updating ! $ at-once ! $ suffices ! _ (ends 𝓤 H A W f.ended (f.clauses 𝓤 H A mem run) tt tt (xs, (c, (k, tt))) tt u r (tt, (tt, (tt, tt)))) $ says ! e $
           nothing ! $ frame ! $ frame ! $ nothing ! $ nothing ! $ fjoin ! $ nothing ! $ fjoin ! $ nothing ! $ fjoin ! $ done !
 
-      module _ (C : Calls 𝓤 H) (Λ : Loops 𝓤 H) (fm : FmC 𝓤 H (W .laws) C) (found : Triple 𝓤 (C #conelist·place-of) Callee) where
+      module _ (C : Calls 𝓤 H) (Λ : Loops 𝓤 H) (fm : FmC 𝓤 H (W .laws) C) (found : Triple 𝓤 (C #conewalk·place-of) Callee) where
         walk : ent 𝓤 (emp 𝓤) (WpFn 𝓤 H C Λ code.function args Post)
         walk =
             qed W [] ∵ enter ! C Λ code.function args _ $
@@ -117,7 +117,7 @@ module _ {M : Type 1} (𝓤 : URA M) (H : Heap 𝓤) (A : Atoms 𝓤) (W : Given
             move ! (14 ∷ 15 ∷ []) $ free1 ! $ move ! (12 ∷ 13 ∷ []) $ free1 ! $ move ! (10 ∷ 11 ∷ []) $ free1 ! $ move ! (8 ∷ 9 ∷ []) $ free1 ! $ move ! (0 ∷ 7 ∷ []) $ free1 ! $ move ! (4 ∷ 5 ∷ []) $ free1 ! $ move ! (2 ∷ 3 ∷ []) $ free1 ! $ free0 ! $
             keep ! (1 ∷ []) $ by ! (exits r u e))))))))))))))
 
-    runs : (C : Calls 𝓤 H) (Λ : Loops 𝓤 H) → FmC 𝓤 H (W .laws) C → Triple 𝓤 (C #conelist·place-of) Callee → Runs 𝓤 H A f.signature known (f.spec 𝓤 H A mem run) (WpFn 𝓤 H C Λ code.function)
+    runs : (C : Calls 𝓤 H) (Λ : Loops 𝓤 H) → FmC 𝓤 H (W .laws) C → Triple 𝓤 (C #conewalk·place-of) Callee → Runs 𝓤 H A f.signature known (f.spec 𝓤 H A mem run) (WpFn 𝓤 H C Λ code.function)
     runs C Λ fm found κs qs bounds a g are =
         qed W ((‵ ftrue ⊛ ‵ (owns (typesAt (f.signature .params) κs) a (spelled 𝓤 H A f.signature known κs a))) ∷ raw (fact 𝓤 (a .1 .0 ≤ 257)) ∷ []) ∵ move ! (1 ∷ []) $ heard ! (a .1 .0 ≤ 257) (λ few. keep ! [] $
         by ! (walk (a .0) (a .1 .0) (a .1 .1 .0) (are .0) (are .1 .0) (are .1 .1 .0) few C Λ fm found))
@@ -126,4 +126,4 @@ pub lent-place-spec : {M : Type 1} → stated.statement M
 unfolding code.routine
 lent-place-spec 𝓤 H 𝓜 𝓖 𝓡 = proved-walk 𝓤 H 𝓜 𝓖 𝓡 f.signature (f.spec 𝓤 H (𝓖 .A) (𝓜 .mem) (𝓡 .run)) code.env #lent-place code.function (code.unfolded 𝓤 H 𝓜 𝓡) (known 𝓤 H (𝓖 .A) (givenOf 𝓤 H 𝓜 𝓖))
     (λ fm. runs 𝓤 H (𝓖 .A) (givenOf 𝓤 H 𝓜 𝓖) (𝓜 .mem) (𝓡 .run) (tables 𝓤 H 𝓜 𝓡 code.env .C) (tables 𝓤 H 𝓜 𝓡 code.env .Λ) fm
-    (cited 𝓤 H (tripleOf 𝓤 H (𝓖 .A) place-of.signature (place-of.spec 𝓤 H (𝓖 .A) (𝓜 .mem) (𝓡 .run))) 𝓜 𝓡 code.env #conelist·place-of place-of-def.routine code.calls-conelist·place-of (place-of-thm.met 𝓤 H 𝓜 𝓖 𝓡)))
+    (cited 𝓤 H (tripleOf 𝓤 H (𝓖 .A) place-of.signature (place-of.spec 𝓤 H (𝓖 .A) (𝓜 .mem) (𝓡 .run))) 𝓜 𝓡 code.env #conewalk·place-of place-of-def.routine code.calls-conewalk·place-of (place-of-thm.met 𝓤 H 𝓜 𝓖 𝓡)))

@@ -41,10 +41,10 @@ use denote.Triple.Walked.{says}
 use Rattle.registers.proofs.Regs.{Regs, check as check₀, reg, exec, iter, one-turn, outOf}
 use Rattle.registers.proofs.Meet.{Knowns, known-struct, spelled, Main, ends, proved, calls, branch-yes, branch-no}
 use Rattle.answers.specs.Outcome.{toldSteps}
-use Rattle.conelist.specs.Walk.{noCone}
+use Rattle.conewalk.specs.Walk.{noCone}
 use Rattle.conelist.specs.declared.Cone.{Cone}
-use Rattle.conelist.proofs.Element.{Lent, coneVal, element}
-use Rattle.conelist.proofs.Forward.{known-list, known-floats, known-f64, known-steps}
+use Rattle.conewalk.proofs.Element.{Lent, coneVal, element}
+use Rattle.conewalk.proofs.Forward.{known-list, known-floats, known-f64, known-steps}
 use Rattle.conelist.proofs.Cone as T
 use Rattle.conelist.proofs.Cone.Laws as T′
 use Rattle.answers.proofs.Steps as R

@@ -1,0 +1,19 @@
+-- The row of records with which the words of a line begin behind the first five (docs/CASES.md). Assumes nothing.
+use Prim.Native.Nat.{ℕ, _+_, _*_}
+use mathlib.Core.Bool.{cond}
+use mathlib.Core.List.{List, [], _∷_, _++_}
+use lib.Dec.{ltb}
+use lib.ListN.{length, getD, drop}
+use Rattle.vecmath.specs.Vector.{Each}
+use Rattle.case_words.specs.Words.{Put, Stopped}
+
+-- n records, each of three words, and behind them what was there
+unfoldable pub Records : List ℕ → (n : ℕ) → List (List ℕ) → List (List ℕ)
+Records words n y = Each n (λ i. getD words (3 * i) 0 ∷ getD words (3 * i + 1) 0 ∷ getD words (3 * i + 2) 0 ∷ []) ++ drop n y
+
+-- a row of n records: 8, over 260; 6, words are missing
+unfoldable pub Row : (n : ℕ) → List ℕ → List (List ℕ) → Put (List ℕ)
+Row n words y =
+    cond (ltb 260 n) (Stopped 8 y)
+    (cond (ltb (length words) (3 * n)) (Stopped 6 y)
+    (record { cut = record { at = 3 * n; length = n; fault = 0 }; holds = Records words n y }))

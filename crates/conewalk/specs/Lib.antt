@@ -1,0 +1,2 @@
+-- `Walk`: how `place_of` goes over the records.
+pub mod Walk
