@@ -40,7 +40,14 @@ pub struct Square {
     pub rows: [[f64; 4]; 4],
 }
 
-// Vectors, numbers, single lent numbers, one lent byte, and the square that one call returns.
+impl Square {
+    // What no call answers, so that an answer that is not written shows.
+    pub fn spoiled() -> Square {
+        Square { no: u8::MAX, rows: [[f64::NAN; 4]; 4] }
+    }
+}
+
+// Vectors, numbers, single lent numbers, one lent byte, and the square that one call answers.
 #[derive(Clone)]
 pub struct Lent {
     pub v: Vec<Vec<f64>>,
@@ -404,9 +411,10 @@ fn square(c: &Soc) -> [[f64; 4]; 4] {
 
 fn native_square(l: &mut Places) -> u8 {
     extern "C" {
-        fn akm_soc_square_hs(w: P, w_len: usize, eta: P) -> Square;
+        fn akm_soc_square_hs(square: *mut Square, w: P, w_len: usize, eta: P);
     }
-    let square = unsafe { akm_soc_square_hs(l.v[0].0, l.v[0].1, l.o[0]) };
+    let mut square = Square::spoiled();
+    unsafe { akm_soc_square_hs(&mut square, l.v[0].0, l.v[0].1, l.o[0]) };
     l.rows = square.rows;
     square.no
 }

@@ -95,6 +95,7 @@ pub fn all(bare: &[Call]) -> Vec<Listed<'_>> {
     all.push(Listed::new(bare, "akm_list_square_hs", |row, l| {
         extern "C" {
             fn akm_list_square_hs(
+                square: *mut Square,
                 list: *mut Record,
                 list_len: usize,
                 k: usize,
@@ -102,11 +103,13 @@ pub fn all(bare: &[Call]) -> Vec<Listed<'_>> {
                 w_len: usize,
                 eta: P,
                 eta_len: usize,
-            ) -> Square;
+            );
         }
         let ((w, w_len), (eta, eta_len)) = (l.v[0], l.v[1]);
-        let square =
-            unsafe { akm_list_square_hs(row.list, row.length, row.k, w, w_len, eta, eta_len) };
+        let mut square = Square::spoiled();
+        unsafe {
+            akm_list_square_hs(&mut square, row.list, row.length, row.k, w, w_len, eta, eta_len)
+        };
         l.rows = square.rows;
         square.no
     }));

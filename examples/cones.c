@@ -30,7 +30,8 @@ int main(void) {
     akm_soc_mul_w(y, N, z, N, 1, 0, w, N, &eta);
     print("W*z", y, N);
 
-    struct akm_square square = akm_soc_square_hs(w, N, &eta);
+    struct akm_square square;
+    akm_soc_square_hs(&square, w, N, &eta);
     for (size_t row = 0; row < N; row++) print("Hs", square.rows[row], N);
 
     double step_z, step_s;

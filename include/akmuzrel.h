@@ -1,6 +1,6 @@
 /* The cone kernels for C: every bare call of the second-order cone (akm_soc_..) and of the nonnegative
    cone (akm_nn_..), every call on a list of cones (akm_list_..), and three operations on numbers.
-   `rt staticlib akmuzrel` proves what stands here and writes target/staticlib/libakmuzrel.a to link.
+   `tools/library LIB.a` proves what stands here and writes the library to link.
 
    A vector is a pointer and its length. A call takes any lengths and any numbers, NaN included. Its
    answer is the number of the first refusal that applies, AKM_DONE for none; a refused call has written
@@ -76,12 +76,13 @@ uint8_t akm_soc_update_scaling(const double *s, size_t s_len, const double *z, s
 /* hs has n numbers for n above 4, else n(n+1)/2: the upper triangle by columns */
 uint8_t akm_soc_get_hs(double *hs, size_t hs_len, const double *w, size_t w_len, const double *eta, const double *d);
 
-/* the block of a cone of up to 4 entries as a matrix, +0 beyond the dimension and where it is refused */
+/* the block of a cone of up to 4 entries as a matrix, +0 beyond the dimension and where it is refused: the
+   answer is the whole struct, which is written in either case */
 struct akm_square {
     uint8_t no; /* the refusal's number */
     double rows[4][4];
 };
-struct akm_square akm_soc_square_hs(const double *w, size_t w_len, const double *eta);
+void akm_soc_square_hs(struct akm_square *square, const double *w, size_t w_len, const double *eta);
 
 /* ---- second-order: products */
 
@@ -166,7 +167,7 @@ uint8_t akm_list_unit_initialization(const struct akm_cone *list, size_t list_le
 uint8_t akm_list_set_identity_scaling(const struct akm_cone *list, size_t list_len, size_t k, double *w, size_t w_len, double *u, size_t u_len, double *v, size_t v_len, double *eta, size_t eta_len, double *d, size_t d_len);
 uint8_t akm_list_update_scaling(const struct akm_cone *list, size_t list_len, size_t k, const double *s, size_t s_len, const double *z, size_t z_len, double *w, size_t w_len, double *lambda, size_t lambda_len, double *u, size_t u_len, double *v, size_t v_len, double *eta, size_t eta_len, double *d, size_t d_len, uint8_t *told);
 uint8_t akm_list_get_hs(const struct akm_cone *list, size_t list_len, size_t k, double *hs, size_t hs_len, const double *w, size_t w_len, const double *eta, size_t eta_len, const double *d, size_t d_len);
-struct akm_square akm_list_square_hs(const struct akm_cone *list, size_t list_len, size_t k, const double *w, size_t w_len, const double *eta, size_t eta_len);
+void akm_list_square_hs(struct akm_square *square, const struct akm_cone *list, size_t list_len, size_t k, const double *w, size_t w_len, const double *eta, size_t eta_len);
 uint8_t akm_list_mul_hs(const struct akm_cone *list, size_t list_len, size_t k, double *y, size_t y_len, const double *x, size_t x_len, const double *w, size_t w_len, const double *eta, size_t eta_len);
 uint8_t akm_list_affine_ds(const struct akm_cone *list, size_t list_len, size_t k, double *ds, size_t ds_len, const double *lambda, size_t lambda_len);
 uint8_t akm_list_combined_ds_shift(const struct akm_cone *list, size_t list_len, size_t k, double *shift, size_t shift_len, double *step_z, size_t step_z_len, double *step_s, size_t step_s_len, double sigma_mu, const double *w, size_t w_len, const double *eta, size_t eta_len);

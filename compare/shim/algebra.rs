@@ -38,6 +38,16 @@ extern "C" {
     fn akm_sqrt(x: f64) -> f64;
 }
 
+// On Arm Rust's least and greatest of a signalling NaN and a number are NaN, elsewhere the number. With --cfg one_nan
+// every NaN goes in as the quiet one, since document 01 counts NaN as one number.
+fn missing(x: f64) -> f64 {
+    if cfg!(one_nan) && x.is_nan() {
+        f64::NAN
+    } else {
+        x
+    }
+}
+
 // Of two opposite zeros Rust's least and greatest may be either. With --cfg two_zeros it is the first,
 // or, where SECOND is set, the second: a program that runs a call both ways knows whether it matters.
 #[cfg(two_zeros)]
@@ -89,14 +99,14 @@ impl FloatT for f64 {
         if self == other {
             return either(self, other);
         }
-        f64::min(self, other)
+        f64::min(missing(self), missing(other))
     }
     fn max(self, other: f64) -> f64 {
         #[cfg(two_zeros)]
         if self == other {
             return either(self, other);
         }
-        f64::max(self, other)
+        f64::max(missing(self), missing(other))
     }
     fn logsafe(self) -> f64 {
         if self <= 0.0 {

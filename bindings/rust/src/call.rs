@@ -89,9 +89,10 @@ macro_rules! call {
         $($doc)*
         pub fn $n($($s)*) -> Result<crate::Square, crate::Refusal> {
             extern "C" {
-                fn $e($($x)*) -> crate::SquareAnswer;
+                fn $e(_: &mut crate::SquareAnswer, $($x)*);
             }
-            let square = unsafe { $e($($h)*) };
+            let mut square = crate::SquareAnswer { number: 0, rows: [[0.0; 4]; 4] };
+            unsafe { $e(&mut square, $($h)*) };
             crate::Refusal::of(square.number).map(|()| square.rows)
         }
     };

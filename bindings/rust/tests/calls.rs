@@ -53,6 +53,9 @@ fn refusals_of_one_cone() {
     assert_eq!(nn::step(&[1.0], &[1.0], f64::NAN), Err(Refusal::Limit));
     assert_eq!(nn::step(&[1.0], &[1.0], -0.0), Ok(0.0));
     assert_eq!(soc::square_hs(&[1.0; 5], 1.0), Err(Refusal::NotDense));
+    let square = soc::square_hs(&[1.0, 0.0], 2.0).unwrap();
+    assert_eq!(square[1], [0.0, 4.0, 0.0, 0.0]);
+    assert_eq!(square[2..], [[0.0; 4]; 2]);
 }
 
 #[test]
