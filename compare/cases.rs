@@ -85,6 +85,14 @@ struct Case {
     slices: Vec<Vec<f64>>,
 }
 
+// A number's bits. The NaN that an operation makes has another sign on another machine: it is written without one.
+fn bits(x: f64) -> u64 {
+    match x.to_bits() {
+        0xfff8_0000_0000_0000 => 0x7ff8_0000_0000_0000,
+        b => b,
+    }
+}
+
 impl Case {
     fn fits(&self) -> bool {
         let numbers: usize = self.slices.iter().map(|x| 1 + x.len()).sum();
@@ -94,12 +102,12 @@ impl Case {
     }
 
     fn text(&self) -> String {
-        let a = |k| self.a.get(k).map_or(0, |x: &f64| x.to_bits());
+        let a = |k| self.a.get(k).map_or(0, |x: &f64| bits(*x));
         let mut words = vec![self.call, a(0), a(1), self.k as u64, self.row.len() as u64];
         words.extend(self.row.iter().flatten().map(|x| *x as u64));
         for x in &self.slices {
             words.push(x.len() as u64);
-            words.extend(x.iter().map(|x| x.to_bits()));
+            words.extend(x.iter().map(|x| bits(*x)));
         }
         let words: Vec<_> = words.iter().map(|w| format!("{w:x}")).collect();
         words.join(" ")
