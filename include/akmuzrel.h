@@ -4,8 +4,9 @@
 
    A vector is a pointer and its length. A call takes any lengths and any numbers, NaN included. Its
    answer is the number of the first refusal that applies, AKM_DONE for none; a refused call has written
-   nothing (the square block has its number in its answer, a struct). The caller owes this: no pointer is null, also where its length is 0; each is aligned and
-   has its length behind it; and what is not const overlaps nothing else that the call is lent.
+   nothing (the square block has its number in its answer, a struct). The caller owes this: no pointer is
+   null, also where its length is 0; each is aligned and has its length behind it; and what is not const
+   overlaps nothing else that the call is lent.
 
    In a bare call the dimension n is the length of the first vector, but of w in the calls of a block and
    of identity scaling; every other vector is as long, but for the block itself. */
