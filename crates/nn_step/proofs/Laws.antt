@@ -1,17 +1,20 @@
 -- Over any operation called least: where no entry of the point is below zero, the nonnegative step is the least of its limit and what it is
 -- without one, so it lies in [0, αmax]; and for any point it may be called at the running least. Assumes nothing.
 use Prim.Native.Nat.{ℕ, zero, suc}
-use mathlib.Core.Path.{_≡_, refl}
+use mathlib.Core.Path.{_≡_, refl, sym}
 use mathlib.Core.Bool.{Bool, true, false, cond, false≢true}
 use mathlib.Core.List.{List}
 use lib.ListN.{length}
-use lib.Ieee.{Float, isNan, lt, le, neg}
+use lib.Dec.{T}
+use lib.Ieee.{Float, nan, inf, fin, binary64, isNan, lt, le, neg, mul, fits}
 use Rattle.extrema.specs.Extrema.{Least}
-use Rattle.vecmath.specs.Double.{_⊘_, 𝟎, ∞, _!_}
+use Rattle.extrema.proofs.Laws.{least-first}
+use Rattle.vecmath.specs.Double.{_⊗_, _⊘_, 𝟎, ∞, _!_}
 use Rattle.vecmath.specs.Vector.{Fold}
 use Rattle.ordering.proofs.Least.{Edition, Trims, trims-limit, trims-least, cuts-least}
 use Rattle.ordering.proofs.Shortens.{UpTo, document-01, ratio, NoNan, zero-up-to, Shortens, none-both, limit-itself}
 use Rattle.ordering.proofs.Listed.{between}
+use Rattle.ordering.proofs.Ratio.{ratio-stays}
 use Rattle.nn_step.specs.Step.{Shorter, NonnegStep, NoneBelow}
 
 -- for a least under which a NaN is handed on (`low`): where the answer at some limit l₀ is none
@@ -56,3 +59,18 @@ pub within : (dz z : List Float) (αmax : Float) → NoneBelow z → isNan αmax
     → (le 𝟎 (NonnegStep Least dz z αmax) ≡ true) × (le (NonnegStep Least dz z αmax) αmax ≡ true)
 within dz z αmax h number admitted =
     between false Least document-01 αmax number admitted (NonnegStep Least dz z) (shortens false Least document-01 αmax dz z h (λ e. absurd (false≢true e)))
+
+-- ---- one entry, with document 01's least: where x is above −(α·y) rounded, it leaves α
+
+number : (α x y : Float) → lt (neg (α ⊗ y)) x ≡ true → isNan α ≡ false
+unfolding mul neg lt isNan
+number nan x y h = absurd (false≢true h)
+number (inf s) x y h = refl
+number (fin s m e) x y h = refl
+
+pub stays : (α x y : Float) → T (fits binary64 α) → T (fits binary64 x) → lt (neg (α ⊗ y)) x ≡ true → α ≡ Shorter Least y x α
+stays α x y f g h = go (lt y 𝟎) refl
+  where
+    go : (b : Bool) → lt y 𝟎 ≡ b → α ≡ cond b (Least α (neg x ⊘ y)) α
+    go true e = sym (least-first α _ (number α x y h) (ratio-stays α x y f g h e))
+    go false e = refl

@@ -11,15 +11,15 @@ ghost use Rattle.answers.specs.Refusal.{Fit};
 ghost use Rattle.answers.specs.Outcome.{lengths, toldStep, toldSteps};
 ghost use Rattle.nn_step.specs.Step.{Shorter, NonnegStep, NonnegSteps, NnStep, NnStepLength};
 
-// The step that one entry x leaves along y.
+// The step that one entry x leaves along y. Most entries leave alpha, and a product tells that without a division, whatever the sign of y.
 fn shorter(alpha: f64, x: f64, y: f64) -> f64
     ensures { λ r. ⌜ r ≡ Shorter Least y x alpha ⌝ }
 {
-    if y < 0.0 {
-        extrema::least(alpha, -x / y)
-    } else {
-        alpha
+    if x > -(alpha * y) {
+        return alpha;
     }
+    let ratio = if y < 0.0 { -x / y } else { alpha };
+    extrema::least(alpha, ratio)
 }
 
 pub fn step(x: &[f64], y: &[f64], limit: f64) -> f64

@@ -1,4 +1,5 @@
--- Steps that are the least of their limit and what they are without one, over any operation called least; document 01's least is one.
+-- Steps that are the least of their limit and what they are without one, over any operation called least; document 01's least is one, and
+-- associative.
 -- Assumes nothing.
 use Prim.Native.Nat.{ℕ, zero, suc, _+_, _-_, _*_, _/_, _%_, _^_, _<_, compare}
 use native.Mathlib.Omega.{arith}
@@ -8,10 +9,11 @@ use mathlib.Core.Bool.{Bool, true, false, not, cond, false≢true, true≢false}
 use mathlib.Core.Logic.{_⊎_, inl, inr}
 use borrow.Author.Tests.{ltb-true, ltb-false, le-ltb, ne-eqb, not-true}
 use lib.Dec.{ltb, eqb}
-use lib.Ieee.{Float, nan, inf, fin, binary64, Format, up, down, isNan, lt, le, neg, div, round, units, odd, size, nearest, ofBits, low, prec, emax}
+use lib.Ieee.{Float, nan, inf, fin, binary64, Format, up, down, isNan, lt, le, ne, neg, div, round, units, odd, size, nearest, ofBits, low, prec, emax}
 use lib.Ieee.Scale.{round-same}
 use lib.IntN.{ℤ, pos}
 use Rattle.extrema.specs.Extrema.{Picked, Least}
+use Rattle.extrema.proofs.Laws.{least-coded, least-first}
 use Rattle.vecmath.specs.Double.{_⊘_, 𝟎, ∞}
 use Rattle.ordering.specs.Upto.{Upto}
 use Rattle.ordering.proofs.Order.{nan-is, nan-lt, not-below, asym, irrefl, le-is, down-pos}
@@ -88,6 +90,43 @@ picks-least a b = go (isNan a) (isNan b) (lt b a) refl refl refl
 
 pub document-01 : Edition (UpTo false) Least
 document-01 = record { self = self false; chain = chain false; picks = picks-least }
+
+-- ---- document 01's least is associative, opposite zeros and NaN included
+
+least-second : (a b : Float) → lt b a ≡ true → Least a b ≡ b
+least-second a b e = least-coded a b ∙ rw e (go (ne a a))
+  where
+    go : (t : Bool) → cond t b b ≡ b
+    go true = refl
+    go false = refl
+
+least-missing : (a b : Float) → isNan b ≡ true → Least a b ≡ a
+unfolding Least Picked
+least-missing a b v = rw v (go (isNan a) refl)
+  where
+    go : (p : Bool) → isNan a ≡ p → cond p b a ≡ a
+    go true u = nan-is b v ∙ sym (nan-is a u)
+    go false u = refl
+
+missing-least : (a b : Float) → isNan a ≡ true → Least a b ≡ b
+unfolding Least Picked
+missing-least a b u = rw u
+
+pub least-assoc : (m a b : Float) → Least m (Least a b) ≡ Least (Least m a) b
+least-assoc m a b = go (isNan m) (isNan a) (isNan b) (lt a m) (lt b a) refl refl refl refl refl
+  where
+    go : (p q r s t : Bool) → isNan m ≡ p → isNan a ≡ q → isNan b ≡ r → lt a m ≡ s → lt b a ≡ t → Least m (Least a b) ≡ Least (Least m a) b
+    go true q r s t u v w e f = rw (missing-least m _ u, missing-least m a u)
+    go false true r s t u v w e f = rw (missing-least a b v, least-missing m a v)
+    go false false true s t u v w e f = rw (least-missing a b w, least-missing _ b w)
+    go false false false true true u v w e f = rw (least-second a b f, least-second m a e, least-second a b f) (least-second m b (below (lt b m) refl))
+      where
+        below : (t : Bool) → lt b m ≡ t → lt b m ≡ true
+        below true h = h
+        below false h = absurd (false≢true (sym (not-below b m a u h (asym a m e)) ∙ f))
+    go false false false true false u v w e f = rw (least-first a b v f, least-second m a e, least-first a b v f)
+    go false false false false true u v w e f = rw (least-second a b f, least-first m a u e)
+    go false false false false false u v w e f = rw (least-first a b v f, least-first m a u e) (sym (least-first m b u (not-below b a m v f e)))
 
 -- ---- a ratio −z / dz is not below zero where z is not and dz is
 
