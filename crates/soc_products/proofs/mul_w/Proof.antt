@@ -9,11 +9,9 @@ unfolding MulW
 mul-w-spec =
     tie.close (tie.spec
     (λ c κs. search needs) (λ c. search needs) (λ c. search needs) (λ c. search needs) (λ c. search needs)
-    (λ c. search needs) (λ c κs. search needs) (λ c κs. search needs) (λ c κs. search needs)
-    (λ c. search needs)
+    (λ c. search needs) (λ c κs. search needs) (λ c κs. search needs) (λ c. search needs)
     (λ c.
-    let second = c .before .before in
-    let first = second .before .before .before .before in
-    let stored = first .before .before .before .before in
+    let added = c .before .before in
+    let stored = added .before .before .before .before in
     let summed = stored .before .before .before .before .before .before .before in
-    rw (second .axpby2 .ensures, first .axpby .ensures, stored .set-first .ensures, summed .dot .ensures)))
+    rw (added .axpby-twice .ensures, stored .set-first .ensures, summed .dot .ensures)))

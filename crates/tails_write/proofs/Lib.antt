@@ -1,0 +1,2 @@
+-- `Laws`: of two axpby one after the other.
+pub mod Laws
