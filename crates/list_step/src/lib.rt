@@ -1,5 +1,5 @@
-// The step lengths of one cone of a list (document 01, "Second-order rules" and "Nonnegative rules"; source documents 000, lines 289 to 304 and
-// 421 to 496, and 001, step_length), over the cone's place: by the cone's kind, on the cone's own ranges, and the call.
+// The step lengths of one cone of a list (document 01, "Second-order rules" and "Nonnegative rules"; source documents 000, lines 289 to 302 and
+// 421 to 495, and 001, step_length), over the cone's place: by the cone's kind, on the cone's own ranges, and the call.
 use answers::StepPair;
 use answers::Steps;
 use conelist::Kind;

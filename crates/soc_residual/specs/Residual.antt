@@ -1,4 +1,4 @@
--- Document 01, "Second-order rules": the residual, the shifted residual, the root scale; source document 000, lines 388 to 416. z₁ is Tail z.
+-- Document 01, "Second-order rules": the residual, the shifted residual, the root scale; source document 000, lines 388 to 417. z₁ is Tail z.
 -- Assumes nothing.
 use mathlib.Core.Bool.{cond}
 use mathlib.Core.List.{List, [], _∷_}

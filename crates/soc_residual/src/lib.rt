@@ -1,4 +1,4 @@
-// The second-order cone's residuals and root scale (source document 000, lines 388 to 416): the bare calls, and behind each the kernel
+// The second-order cone's residuals and root scale (source document 000, lines 388 to 417): the bare calls, and behind each the kernel
 // that it calls once nothing is refused.
 use answers::Number;
 ghost use mathlib.Core.Path.{_≡_};

@@ -1,4 +1,4 @@
--- Document 01, "Second-order rules": the step of x along y with limit αmax; source document 000, lines 289 to 304 and 421 to 496. The
+-- Document 01, "Second-order rules": the step of x along y with limit αmax; source document 000, lines 289 to 302 and 421 to 495. The
 -- operation called least is a parameter. x₁ is Tail x. Assumes nothing.
 use mathlib.Core.Bool.{cond, _&&_, _||_}
 use mathlib.Core.List.{List, [], _∷_}

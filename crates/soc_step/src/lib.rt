@@ -1,4 +1,4 @@
-// The second-order cone's step (source document 000, lines 289 to 304 and 421 to 496): the bare calls, and behind them the kernel.
+// The second-order cone's step (source document 000, lines 289 to 302 and 421 to 495): the bare calls, and behind them the kernel.
 use answers::Step;
 use answers::StepPair;
 use answers::Steps;

@@ -1,4 +1,4 @@
-// What a scaling of the second-order cone computes (source document 000, lines 158 to 186): the vector w and its norming, and the scaling
+// What a scaling of the second-order cone computes (source document 000, lines 158 to 184): the vector w and its norming, and the scaling
 // point lambda. The caller has checked the lengths.
 ghost use mathlib.Core.Path.{_≡_};
 ghost use mathlib.Core.List.{[], _∷_};
@@ -8,7 +8,7 @@ ghost use Rattle.tails.specs.Tail.{Tail};
 ghost use Rattle.answers.specs.Refusal.{Fit};
 ghost use Rattle.soc_terms.specs.Terms.{Point, Normed, Lambda};
 
-// w = s/sscale, with z₀/zscale added to the first entry and z₁/zscale taken from the rest
+// w = (1/sscale)·s, with z₀/zscale added to the first entry and −(1/zscale)·z₁ to the rest
 pub fn point(w: &mut [f64], s: &[f64], z: &[f64], sscale: f64, zscale: f64)
     requires { ⌜ Fit 2 (length (now s)) (length (now z) ∷ length (now w) ∷ []) ⌝ }
     ensures { λ _. ⌜ now (w .exit) ≡ Point (now (s .entry)) (now (z .entry)) sscale zscale ⌝ }
