@@ -3,26 +3,27 @@
 use answers::Square;
 ghost use mathlib.Core.Path.{_≡_};
 ghost use mathlib.Core.List.{[], _∷_};
-ghost use Rattle.answers.specs.Outcome.{toldSquare};
+ghost use Rattle.answers.specs.Outcome.{ofSquare, AsSquared, _⨾_};
 ghost use Rattle.conelist.specs.Layout.{PlaceOf};
-ghost use Rattle.list_margins.specs.Margins.{MarginsAt};
-ghost use Rattle.list_units.specs.Units.{ScaledUnitShiftAt, UnitInitializationAt};
-ghost use Rattle.list_identity.specs.Identity.{SetIdentityScalingAt};
-ghost use Rattle.list_scaling.specs.Scaling.{UpdateScalingAt};
-ghost use Rattle.list_blocks.specs.Block.{GetHsAt};
-ghost use Rattle.list_square.specs.Square.{SquareHsAt};
-ghost use Rattle.list_mul_hs.specs.Block.{MulHsAt};
-ghost use Rattle.list_jordan.specs.Jordan.{AffineDsAt, CircOpAt};
-ghost use Rattle.list_combined.specs.Combined.{CombinedDsShiftAt};
-ghost use Rattle.list_offset.specs.Offset.{DsFromDzOffsetAt};
-ghost use Rattle.list_step.specs.Step.{StepLengthAt};
-ghost use Rattle.list_products.specs.Product.{MulWAt};
-ghost use Rattle.list_mul_winv.specs.Product.{MulWinvAt};
-ghost use Rattle.list_inverse.specs.Inverse.{InvCircOpAt, LambdaInvCircOpAt};
-ghost use Rattle.list_standing.specs.Standing.{StandingAt};
+ghost use Rattle.conecalls.specs.Deed.{At};
+ghost use Rattle.list_margins.specs.Margins.{MarginsDeed};
+ghost use Rattle.list_units.specs.Units.{ScaledUnitShiftDeed, UnitInitializationDeed};
+ghost use Rattle.list_identity.specs.Identity.{SetIdentityScalingDeed};
+ghost use Rattle.list_scaling.specs.Scaling.{UpdateScalingDeed};
+ghost use Rattle.list_blocks.specs.Block.{GetHsDeed};
+ghost use Rattle.list_square.specs.Square.{SquareHsDeed};
+ghost use Rattle.list_mul_hs.specs.Block.{MulHsDeed};
+ghost use Rattle.list_jordan.specs.Jordan.{AffineDsDeed, CircOpDeed};
+ghost use Rattle.list_combined.specs.Combined.{CombinedDsShiftDeed};
+ghost use Rattle.list_offset.specs.Offset.{DsFromDzOffsetDeed};
+ghost use Rattle.list_step.specs.Step.{StepLengthDeed};
+ghost use Rattle.list_products.specs.Product.{MulWDeed};
+ghost use Rattle.list_mul_winv.specs.Product.{MulWinvDeed};
+ghost use Rattle.list_inverse.specs.Inverse.{InvCircOpDeed, LambdaInvCircOpDeed};
+ghost use Rattle.list_standing.specs.Standing.{StandingDeed};
 ghost use Rattle.whole_step.specs.List.{ListStepLength};
 ghost use Rattle.records.specs.Record.{Cones};
-ghost use Rattle.codes.specs.Code.{real, whole, export, Exported};
+ghost use Rattle.codes.specs.Code.{real, whole, export, Values, Exported};
 
 #[no_mangle]
 pub extern "C" fn akm_list_margins(
@@ -32,8 +33,8 @@ pub extern "C" fn akm_list_margins(
     alpha: &mut f64,
     beta: &mut f64,
 ) -> u8
-    ensures { λ r. ⌜ export r (real (now (alpha .exit)) ∷ real (now (beta .exit)) ∷ []) []
-        ≡ Exported (real (now (alpha .entry)) ∷ real (now (beta .entry)) ∷ []) (MarginsAt (PlaceOf (Cones (now (list .entry))) k) (now (z .entry))) ⌝ }
+    ensures { λ r. ⌜ export r (real (now (alpha .exit)) ∷ real (now (beta .exit)) ∷ []) tt
+        ≡ Exported Values (real (now (alpha .entry)) ∷ real (now (beta .entry)) ∷ []) (At (PlaceOf (Cones (now (list .entry))) k) MarginsDeed (now (z .entry))) ⌝ }
 {
     let p = records::place_of(list, k);
     codes::margins(list_margins::margins_at(p, z), alpha, beta)
@@ -46,8 +47,8 @@ pub extern "C" fn akm_list_scaled_unit_shift(
     z: &mut [f64],
     alpha: f64,
 ) -> u8
-    ensures { λ r. ⌜ export r [] (now (z .exit) ∷ [])
-        ≡ Exported [] (ScaledUnitShiftAt (PlaceOf (Cones (now (list .entry))) k) (now (z .entry)) alpha) ⌝ }
+    ensures { λ r. ⌜ export r [] (now (z .exit) ⨾ tt)
+        ≡ Exported Values [] (At (PlaceOf (Cones (now (list .entry))) k) (ScaledUnitShiftDeed alpha) (now (z .entry))) ⌝ }
 {
     let p = records::place_of(list, k);
     codes::answer(list_units::scaled_unit_shift_at(p, z, alpha))
@@ -60,8 +61,8 @@ pub extern "C" fn akm_list_unit_initialization(
     z: &mut [f64],
     s: &mut [f64],
 ) -> u8
-    ensures { λ r. ⌜ export r [] (now (z .exit) ∷ now (s .exit) ∷ [])
-        ≡ Exported [] (UnitInitializationAt (PlaceOf (Cones (now (list .entry))) k) (now (z .entry)) (now (s .entry))) ⌝ }
+    ensures { λ r. ⌜ export r [] (now (z .exit) ⨾ now (s .exit) ⨾ tt)
+        ≡ Exported Values [] (At (PlaceOf (Cones (now (list .entry))) k) UnitInitializationDeed (now (z .entry)) (now (s .entry))) ⌝ }
 {
     let p = records::place_of(list, k);
     codes::answer(list_units::unit_initialization_at(p, z, s))
@@ -77,8 +78,8 @@ pub extern "C" fn akm_list_set_identity_scaling(
     eta: &mut [f64],
     d: &mut [f64],
 ) -> u8
-    ensures { λ r. ⌜ export r [] (now (w .exit) ∷ now (u .exit) ∷ now (v .exit) ∷ now (eta .exit) ∷ now (d .exit) ∷ [])
-        ≡ Exported [] (SetIdentityScalingAt (PlaceOf (Cones (now (list .entry))) k) (now (w .entry)) (now (u .entry)) (now (v .entry)) (now (eta .entry)) (now (d .entry))) ⌝ }
+    ensures { λ r. ⌜ export r [] (now (w .exit) ⨾ now (u .exit) ⨾ now (v .exit) ⨾ now (eta .exit) ⨾ now (d .exit) ⨾ tt)
+        ≡ Exported Values [] (At (PlaceOf (Cones (now (list .entry))) k) SetIdentityScalingDeed (now (w .entry)) (now (u .entry)) (now (v .entry)) (now (eta .entry)) (now (d .entry))) ⌝ }
 {
     let p = records::place_of(list, k);
     codes::answer(list_identity::set_identity_scaling_at(p, w, u, v, eta, d))
@@ -96,15 +97,15 @@ pub extern "C" fn akm_list_update_scaling(
     v: &mut [f64],
     eta: &mut [f64],
     d: &mut [f64],
-    told: &mut u8,
+    truth: &mut u8,
 ) -> u8
-    ensures { λ r. ⌜ export r (whole (now (told .exit)) ∷ []) (now (w .exit) ∷ now (lambda .exit) ∷ now (u .exit) ∷ now (v .exit) ∷ now (eta .exit) ∷ now (d .exit) ∷ [])
-        ≡ Exported (whole (now (told .entry)) ∷ []) (UpdateScalingAt (PlaceOf (Cones (now (list .entry))) k) (now (s .entry)) (now (z .entry)) (now (w .entry)) (now (lambda .entry)) (now (u .entry)) (now (v .entry)) (now (eta .entry)) (now (d .entry))) ⌝ }
+    ensures { λ r. ⌜ export r (whole (now (truth .exit)) ∷ []) (now (w .exit) ⨾ now (lambda .exit) ⨾ now (u .exit) ⨾ now (v .exit) ⨾ now (eta .exit) ⨾ now (d .exit) ⨾ tt)
+        ≡ Exported Values (whole (now (truth .entry)) ∷ []) (At (PlaceOf (Cones (now (list .entry))) k) UpdateScalingDeed (now (w .entry)) (now (lambda .entry)) (now (u .entry)) (now (v .entry)) (now (eta .entry)) (now (d .entry)) (now (s .entry)) (now (z .entry))) ⌝ }
 {
     let p = records::place_of(list, k);
     codes::scaling(
         list_scaling::update_scaling_at(p, s, z, w, lambda, u, v, eta, d),
-        told,
+        truth,
     )
 }
 
@@ -117,8 +118,8 @@ pub extern "C" fn akm_list_get_hs(
     eta: &[f64],
     d: &[f64],
 ) -> u8
-    ensures { λ r. ⌜ export r [] (now (hs .exit) ∷ [])
-        ≡ Exported [] (GetHsAt (PlaceOf (Cones (now (list .entry))) k) (now (hs .entry)) (now (w .entry)) (now (eta .entry)) (now (d .entry))) ⌝ }
+    ensures { λ r. ⌜ export r [] (now (hs .exit) ⨾ tt)
+        ≡ Exported Values [] (At (PlaceOf (Cones (now (list .entry))) k) GetHsDeed (now (hs .entry)) (now (w .entry)) (now (eta .entry)) (now (d .entry))) ⌝ }
 {
     let p = records::place_of(list, k);
     codes::answer(list_blocks::get_hs_at(p, hs, w, eta, d))
@@ -131,7 +132,7 @@ pub extern "C" fn akm_list_square_hs(
     w: &[f64],
     eta: &[f64],
 ) -> Square
-    ensures { λ r. ⌜ toldSquare r ≡ SquareHsAt (PlaceOf (Cones (now (list .entry))) k) (now (w .entry)) (now (eta .entry)) ⌝ }
+    ensures { λ r. ⌜ ofSquare r ≡ AsSquared (At (PlaceOf (Cones (now (list .entry))) k) SquareHsDeed (now (w .entry)) (now (eta .entry)) .ruling) ⌝ }
 {
     let p = records::place_of(list, k);
     list_square::square_hs_at(p, w, eta)
@@ -146,8 +147,8 @@ pub extern "C" fn akm_list_mul_hs(
     w: &[f64],
     eta: &[f64],
 ) -> u8
-    ensures { λ r. ⌜ export r [] (now (y .exit) ∷ [])
-        ≡ Exported [] (MulHsAt (PlaceOf (Cones (now (list .entry))) k) (now (y .entry)) (now (x .entry)) (now (w .entry)) (now (eta .entry))) ⌝ }
+    ensures { λ r. ⌜ export r [] (now (y .exit) ⨾ tt)
+        ≡ Exported Values [] (At (PlaceOf (Cones (now (list .entry))) k) MulHsDeed (now (y .entry)) (now (x .entry)) (now (w .entry)) (now (eta .entry))) ⌝ }
 {
     let p = records::place_of(list, k);
     codes::answer(list_mul_hs::mul_hs_at(p, y, x, w, eta))
@@ -160,8 +161,8 @@ pub extern "C" fn akm_list_affine_ds(
     ds: &mut [f64],
     lambda: &[f64],
 ) -> u8
-    ensures { λ r. ⌜ export r [] (now (ds .exit) ∷ [])
-        ≡ Exported [] (AffineDsAt (PlaceOf (Cones (now (list .entry))) k) (now (ds .entry)) (now (lambda .entry))) ⌝ }
+    ensures { λ r. ⌜ export r [] (now (ds .exit) ⨾ tt)
+        ≡ Exported Values [] (At (PlaceOf (Cones (now (list .entry))) k) AffineDsDeed (now (ds .entry)) (now (lambda .entry))) ⌝ }
 {
     let p = records::place_of(list, k);
     codes::answer(list_jordan::affine_ds_at(p, ds, lambda))
@@ -178,8 +179,8 @@ pub extern "C" fn akm_list_combined_ds_shift(
     w: &[f64],
     eta: &[f64],
 ) -> u8
-    ensures { λ r. ⌜ export r [] (now (shift .exit) ∷ now («step_z» .exit) ∷ now («step_s» .exit) ∷ [])
-        ≡ Exported [] (CombinedDsShiftAt (PlaceOf (Cones (now (list .entry))) k) (now (shift .entry)) (now («step_z» .entry)) (now («step_s» .entry)) «sigma_mu» (now (w .entry)) (now (eta .entry))) ⌝ }
+    ensures { λ r. ⌜ export r [] (now (shift .exit) ⨾ now («step_z» .exit) ⨾ now («step_s» .exit) ⨾ tt)
+        ≡ Exported Values [] (At (PlaceOf (Cones (now (list .entry))) k) (CombinedDsShiftDeed «sigma_mu») (now (shift .entry)) (now («step_z» .entry)) (now («step_s» .entry)) (now (w .entry)) (now (eta .entry))) ⌝ }
 {
     let p = records::place_of(list, k);
     codes::answer(list_combined::combined_ds_shift_at(p, shift, step_z, step_s, sigma_mu, w, eta))
@@ -196,8 +197,8 @@ pub extern "C" fn akm_list_ds_from_dz_offset(
     lambda: &[f64],
     eta: &[f64],
 ) -> u8
-    ensures { λ r. ⌜ export r [] (now (out .exit) ∷ [])
-        ≡ Exported [] (DsFromDzOffsetAt (PlaceOf (Cones (now (list .entry))) k) (now (out .entry)) (now (ds .entry)) (now (z .entry)) (now (w .entry)) (now (lambda .entry)) (now (eta .entry))) ⌝ }
+    ensures { λ r. ⌜ export r [] (now (out .exit) ⨾ tt)
+        ≡ Exported Values [] (At (PlaceOf (Cones (now (list .entry))) k) DsFromDzOffsetDeed (now (out .entry)) (now (ds .entry)) (now (z .entry)) (now (w .entry)) (now (lambda .entry)) (now (eta .entry))) ⌝ }
 {
     let p = records::place_of(list, k);
     codes::answer(list_offset::ds_from_dz_offset_at(p, out, ds, z, w, lambda, eta))
@@ -215,8 +216,8 @@ pub extern "C" fn akm_list_step_length(
     step_z: &mut f64,
     step_s: &mut f64,
 ) -> u8
-    ensures { λ r. ⌜ export r (real (now («step_z» .exit)) ∷ real (now («step_s» .exit)) ∷ []) []
-        ≡ Exported (real (now («step_z» .entry)) ∷ real (now («step_s» .entry)) ∷ []) (StepLengthAt (PlaceOf (Cones (now (list .entry))) k) (now (dz .entry)) (now (ds .entry)) (now (z .entry)) (now (s .entry)) limit) ⌝ }
+    ensures { λ r. ⌜ export r (real (now («step_z» .exit)) ∷ real (now («step_s» .exit)) ∷ []) tt
+        ≡ Exported Values (real (now («step_z» .entry)) ∷ real (now («step_s» .entry)) ∷ []) (At (PlaceOf (Cones (now (list .entry))) k) (StepLengthDeed limit) (now (dz .entry)) (now (ds .entry)) (now (z .entry)) (now (s .entry))) ⌝ }
 {
     let p = records::place_of(list, k);
     codes::steps(
@@ -237,8 +238,8 @@ pub extern "C" fn akm_list_mul_w(
     w: &[f64],
     eta: &[f64],
 ) -> u8
-    ensures { λ r. ⌜ export r [] (now (y .exit) ∷ [])
-        ≡ Exported [] (MulWAt (PlaceOf (Cones (now (list .entry))) k) (now (y .entry)) (now (x .entry)) alpha beta (now (w .entry)) (now (eta .entry))) ⌝ }
+    ensures { λ r. ⌜ export r [] (now (y .exit) ⨾ tt)
+        ≡ Exported Values [] (At (PlaceOf (Cones (now (list .entry))) k) (MulWDeed alpha beta) (now (y .entry)) (now (x .entry)) (now (w .entry)) (now (eta .entry))) ⌝ }
 {
     let p = records::place_of(list, k);
     codes::answer(list_products::mul_w_at(p, y, x, alpha, beta, w, eta))
@@ -255,8 +256,8 @@ pub extern "C" fn akm_list_mul_winv(
     w: &[f64],
     eta: &[f64],
 ) -> u8
-    ensures { λ r. ⌜ export r [] (now (y .exit) ∷ [])
-        ≡ Exported [] (MulWinvAt (PlaceOf (Cones (now (list .entry))) k) (now (y .entry)) (now (x .entry)) alpha beta (now (w .entry)) (now (eta .entry))) ⌝ }
+    ensures { λ r. ⌜ export r [] (now (y .exit) ⨾ tt)
+        ≡ Exported Values [] (At (PlaceOf (Cones (now (list .entry))) k) (MulWinvDeed alpha beta) (now (y .entry)) (now (x .entry)) (now (w .entry)) (now (eta .entry))) ⌝ }
 {
     let p = records::place_of(list, k);
     codes::answer(list_mul_winv::mul_winv_at(p, y, x, alpha, beta, w, eta))
@@ -270,8 +271,8 @@ pub extern "C" fn akm_list_circ_op(
     y: &[f64],
     z: &[f64],
 ) -> u8
-    ensures { λ r. ⌜ export r [] (now (x .exit) ∷ [])
-        ≡ Exported [] (CircOpAt (PlaceOf (Cones (now (list .entry))) k) (now (x .entry)) (now (y .entry)) (now (z .entry))) ⌝ }
+    ensures { λ r. ⌜ export r [] (now (x .exit) ⨾ tt)
+        ≡ Exported Values [] (At (PlaceOf (Cones (now (list .entry))) k) CircOpDeed (now (x .entry)) (now (y .entry)) (now (z .entry))) ⌝ }
 {
     let p = records::place_of(list, k);
     codes::answer(list_jordan::circ_op_at(p, x, y, z))
@@ -285,8 +286,8 @@ pub extern "C" fn akm_list_inv_circ_op(
     y: &[f64],
     z: &[f64],
 ) -> u8
-    ensures { λ r. ⌜ export r [] (now (x .exit) ∷ [])
-        ≡ Exported [] (InvCircOpAt (PlaceOf (Cones (now (list .entry))) k) (now (x .entry)) (now (y .entry)) (now (z .entry))) ⌝ }
+    ensures { λ r. ⌜ export r [] (now (x .exit) ⨾ tt)
+        ≡ Exported Values [] (At (PlaceOf (Cones (now (list .entry))) k) InvCircOpDeed (now (x .entry)) (now (y .entry)) (now (z .entry))) ⌝ }
 {
     let p = records::place_of(list, k);
     codes::answer(list_inverse::inv_circ_op_at(p, x, y, z))
@@ -300,8 +301,8 @@ pub extern "C" fn akm_list_lambda_inv_circ_op(
     z: &[f64],
     lambda: &[f64],
 ) -> u8
-    ensures { λ r. ⌜ export r [] (now (x .exit) ∷ [])
-        ≡ Exported [] (LambdaInvCircOpAt (PlaceOf (Cones (now (list .entry))) k) (now (x .entry)) (now (z .entry)) (now (lambda .entry))) ⌝ }
+    ensures { λ r. ⌜ export r [] (now (x .exit) ⨾ tt)
+        ≡ Exported Values [] (At (PlaceOf (Cones (now (list .entry))) k) LambdaInvCircOpDeed (now (x .entry)) (now (z .entry)) (now (lambda .entry))) ⌝ }
 {
     let p = records::place_of(list, k);
     codes::answer(list_inverse::lambda_inv_circ_op_at(p, x, z, lambda))
@@ -314,8 +315,8 @@ pub extern "C" fn akm_list_standing(
     z: &[f64],
     standing: &mut u8,
 ) -> u8
-    ensures { λ r. ⌜ export r (whole (now (standing .exit)) ∷ []) []
-        ≡ Exported (whole (now (standing .entry)) ∷ []) (StandingAt (PlaceOf (Cones (now (list .entry))) k) (now (z .entry))) ⌝ }
+    ensures { λ r. ⌜ export r (whole (now (standing .exit)) ∷ []) tt
+        ≡ Exported Values (whole (now (standing .entry)) ∷ []) (At (PlaceOf (Cones (now (list .entry))) k) StandingDeed (now (z .entry))) ⌝ }
 {
     let p = records::place_of(list, k);
     codes::stands(list_standing::standing_at(p, z), standing)
@@ -333,8 +334,8 @@ pub extern "C" fn akm_whole_step_length(
     step_z: &mut f64,
     step_s: &mut f64,
 ) -> u8
-    ensures { λ r. ⌜ export r (real (now («step_z» .exit)) ∷ real (now («step_s» .exit)) ∷ []) []
-        ≡ Exported (real (now («step_z» .entry)) ∷ real (now («step_s» .entry)) ∷ []) (ListStepLength (Cones (now (list .entry))) (now (dz .entry)) (now (ds .entry)) (now (z .entry)) (now (s .entry)) limit) ⌝ }
+    ensures { λ r. ⌜ export r (real (now («step_z» .exit)) ∷ real (now («step_s» .exit)) ∷ []) tt
+        ≡ Exported Values (real (now («step_z» .entry)) ∷ real (now («step_s» .entry)) ∷ []) (ListStepLength (Cones (now (list .entry))) (now (dz .entry)) (now (ds .entry)) (now (z .entry)) (now (s .entry)) limit) ⌝ }
 {
     codes::steps(
         records_step::list_step_length(list, dz, ds, z, s, limit),

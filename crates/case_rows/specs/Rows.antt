@@ -12,8 +12,8 @@ unfoldable pub Records : List ℕ → (n : ℕ) → List (List ℕ) → List (Li
 Records words n y = Each n (λ i. getD words (3 * i) 0 ∷ getD words (3 * i + 1) 0 ∷ getD words (3 * i + 2) 0 ∷ []) ++ drop n y
 
 -- a row of n records: 8, over 260; 6, words are missing
-unfoldable pub Row : (n : ℕ) → List ℕ → List (List ℕ) → Put (List ℕ)
-Row n words y =
+unfoldable pub ListOf : (n : ℕ) → List ℕ → List (List ℕ) → Put (List ℕ)
+ListOf n words y =
     cond (ltb 260 n) (Stopped 8 y)
     (cond (ltb (length words) (3 * n)) (Stopped 6 y)
     (record { cut = record { at = 3 * n; length = n; fault = 0 }; holds = Records words n y }))

@@ -4,7 +4,7 @@ ghost use mathlib.Core.Path.{_≡_};
 ghost use Prim.Native.Nat.{_≤_, _*_};
 ghost use lib.ListN.{length};
 ghost use Rattle.cases.specs.Text.{Counts};
-ghost use Rattle.case_rows.specs.Rows.{Records, Row};
+ghost use Rattle.case_rows.specs.Rows.{Records, ListOf};
 
 // n records of three words.
 fn records(words: &[u64], n: usize, out: &mut [[usize; 3]])
@@ -24,8 +24,8 @@ fn records(words: &[u64], n: usize, out: &mut [[usize; 3]])
 }
 
 // A row of n records, with which the words begin.
-pub fn row(n: usize, words: &[u64], out: &mut [[usize; 3]; 260]) -> Cut
-    ensures { λ r. ⌜ record { cut = r; holds = now (out .exit) } ≡ Row n (now (words .entry)) (now (out .entry)) ⌝ }
+pub fn list_of(n: usize, words: &[u64], out: &mut [[usize; 3]; 260]) -> Cut
+    ensures { λ r. ⌜ record { cut = r; holds = now (out .exit) } ≡ ListOf n (now (words .entry)) (now (out .entry)) ⌝ }
     ensures { λ r. ⌜ Counts (r .length) (now (out .exit)) ⌝ }
 {
     if 260 < n {

@@ -3,13 +3,12 @@ use Prim.Native.Nat.{ℕ}
 use mathlib.Core.List.{List}
 use mathlib.Core.Path.{_≡_, sym, ap, _∙_}
 use lib.Ieee.{Float}
-use Rattle.answers.specs.Outcome.{Contents}
 use Rattle.codes.specs.Code.{Value, real, whole, Export, export}
 
-pub one-export : {n n′ : ℕ} {values values′ : List Value} {exits exits′ : Contents} {x : Export} → export n values exits ≡ x → export n′ values′ exits′ ≡ x → (n ≡ n′) × (values ≡ values′) × (exits ≡ exits′)
+pub one-export : {n n′ : ℕ} {values values′ : List Value} {B : Type 0} {exits exits′ : B} {x : Export B} → export n values exits ≡ x → export n′ values′ exits′ ≡ x → (n ≡ n′) × (values ≡ values′) × (exits ≡ exits′)
 one-export p q =
     let e = p ∙ sym q in
-    (ap (λ o. o .report .number) e, ap (λ o. o .report .values) e, ap (λ o. o .holds) e)
+    (ap (λ o. o .report .refusal) e, ap (λ o. o .report .values) e, ap (λ o. o .holds) e)
 
 -- and a value tells what the lent number holds
 pub one-real : {x y : Float} → real x ≡ real y → x ≡ y

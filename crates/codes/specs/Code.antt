@@ -4,7 +4,7 @@ use Prim.Native.Nat.{ℕ}
 use mathlib.Core.Bool.{cond}
 use mathlib.Core.List.{List, [], _∷_}
 use lib.Ieee.{Float}
-use Rattle.answers.specs.Outcome.{Reply, done, margins, truth, number, lengths, stands, Ruling, gives, refuses, Contents, Came}
+use Rattle.answers.specs.Outcome.{Reply, done, margins, truth, number, lengths, stands, Ruling, gives, refuses, Outcome}
 use Rattle.answers.specs.declared.Standing.{Standing}
 use Rattle.answers.specs.declared.Standing.the-variants.{Inside, Edge, Outside, Mirrored, NotNumber}
 
@@ -21,7 +21,7 @@ StandingNumber Outside = 2
 StandingNumber Mirrored = 3
 StandingNumber NotNumber = 4
 
--- the values of an answer, in the order of the lent numbers; a scaling's true is 1, its false 0
+-- the values of an answer of document 01, in the order of the lent numbers; a scaling's true is 1, its false 0
 unfoldable pub Values : Reply → List Value
 Values done = []
 Values (margins α β) = real α ∷ real β ∷ []
@@ -32,28 +32,28 @@ Values (stands x) = whole (StandingNumber x) ∷ []
 
 -- the number that is returned, and what the lent numbers hold
 pub record Report : Type 0 where
-  pub number : ℕ
+  pub refusal : ℕ
   pub values : List Value
 
--- an answer is number 0, with its values; a refusal is its number, and the lent numbers hold what they held
-unfoldable pub Reported : List Value → Ruling Reply → Report
-unfolding Values
-Reported old (gives reply) = record { number = 0; values = Values reply }
-Reported old (refuses k) = record { number = k; values = old }
+-- an answer is 0, with its values; a refusal is its number, and the lent numbers hold what they held. `values` reads the values off a reply of
+-- any type
+unfoldable pub Reported : {A : Type 0} → (values : A → List Value) → (old : List Value) → Ruling A → Report
+Reported values old (gives reply) = record { refusal = 0; values = values reply }
+Reported values old (refuses k) = record { refusal = k; values = old }
 
 -- the whole export
-pub record Export : Type 0 where
+pub record Export (B : Type 0) : Type 0 where
   pub report : Report
-  pub holds : Contents
+  pub holds : B
 
 -- by what the lent numbers held and what the bare call comes to
-unfoldable pub Exported : List Value → Came → Export
-Exported old came = record { report = Reported old (came .ruling); holds = came .holds }
+unfoldable pub Exported : {A B : Type 0} → (values : A → List Value) → (old : List Value) → Outcome A B → Export B
+Exported values old came = record { report = Reported values old (came .ruling); holds = came .holds }
 
 -- ---- a contract's left side
 
 abbrev pub report : ℕ → List Value → Report
-report r values = record { number = r; values = values }
+report r values = record { refusal = r; values = values }
 
-abbrev pub export : ℕ → List Value → Contents → Export
+abbrev pub export : {B : Type 0} → ℕ → List Value → B → Export B
 export r values exits = record { report = report r values; holds = exits }

@@ -11,10 +11,10 @@ use answers::Steps;
 ghost use mathlib.Core.Path.{_≡_};
 ghost use mathlib.Core.List.{[], _∷_};
 ghost use Rattle.answers.specs.Outcome.{ofAnswer, ofMargins, ofScaling, ofNumber, ofStep, ofSteps, ofStands};
-ghost use Rattle.codes.specs.Code.{real, whole, StandingNumber, Reported, report};
+ghost use Rattle.codes.specs.Code.{real, whole, StandingNumber, Values, Reported, report};
 
 pub fn answer(a: Answer) -> u8
-    ensures { λ r. ⌜ report r [] ≡ Reported [] (ofAnswer a) ⌝ }
+    ensures { λ r. ⌜ report r [] ≡ Reported Values [] (ofAnswer a) ⌝ }
 {
     match a {
         Answer::Done => 0,
@@ -24,7 +24,7 @@ pub fn answer(a: Answer) -> u8
 
 pub fn margins(m: Margins, alpha: &mut f64, beta: &mut f64) -> u8
     ensures { λ r. ⌜ report r (real (now (alpha .exit)) ∷ real (now (beta .exit)) ∷ [])
-        ≡ Reported (real (now (alpha .entry)) ∷ real (now (beta .entry)) ∷ []) (ofMargins m) ⌝ }
+        ≡ Reported Values (real (now (alpha .entry)) ∷ real (now (beta .entry)) ∷ []) (ofMargins m) ⌝ }
 {
     match m {
         Margins::Are(a, b) => {
@@ -36,12 +36,12 @@ pub fn margins(m: Margins, alpha: &mut f64, beta: &mut f64) -> u8
     }
 }
 
-pub fn scaling(s: Scaling, told: &mut u8) -> u8
-    ensures { λ r. ⌜ report r (whole (now (told .exit)) ∷ []) ≡ Reported (whole (now (told .entry)) ∷ []) (ofScaling s) ⌝ }
+pub fn scaling(s: Scaling, truth: &mut u8) -> u8
+    ensures { λ r. ⌜ report r (whole (now (truth .exit)) ∷ []) ≡ Reported Values (whole (now (truth .entry)) ∷ []) (ofScaling s) ⌝ }
 {
     match s {
-        Scaling::Told(t) => {
-            *told = if t { 1 } else { 0 };
+        Scaling::Truth(t) => {
+            *truth = if t { 1 } else { 0 };
             0
         }
         Scaling::Refused(no) => no,
@@ -49,7 +49,7 @@ pub fn scaling(s: Scaling, told: &mut u8) -> u8
 }
 
 pub fn number(x: Number, value: &mut f64) -> u8
-    ensures { λ r. ⌜ report r (real (now (value .exit)) ∷ []) ≡ Reported (real (now (value .entry)) ∷ []) (ofNumber x) ⌝ }
+    ensures { λ r. ⌜ report r (real (now (value .exit)) ∷ []) ≡ Reported Values (real (now (value .entry)) ∷ []) (ofNumber x) ⌝ }
 {
     match x {
         Number::Is(v) => {
@@ -61,7 +61,7 @@ pub fn number(x: Number, value: &mut f64) -> u8
 }
 
 pub fn step(x: Step, length: &mut f64) -> u8
-    ensures { λ r. ⌜ report r (real (now (length .exit)) ∷ []) ≡ Reported (real (now (length .entry)) ∷ []) (ofStep x) ⌝ }
+    ensures { λ r. ⌜ report r (real (now (length .exit)) ∷ []) ≡ Reported Values (real (now (length .entry)) ∷ []) (ofStep x) ⌝ }
 {
     match x {
         Step::Length(v) => {
@@ -74,7 +74,7 @@ pub fn step(x: Step, length: &mut f64) -> u8
 
 pub fn steps(x: Steps, step_z: &mut f64, step_s: &mut f64) -> u8
     ensures { λ r. ⌜ report r (real (now («step_z» .exit)) ∷ real (now («step_s» .exit)) ∷ [])
-        ≡ Reported (real (now («step_z» .entry)) ∷ real (now («step_s» .entry)) ∷ []) (ofSteps x) ⌝ }
+        ≡ Reported Values (real (now («step_z» .entry)) ∷ real (now («step_s» .entry)) ∷ []) (ofSteps x) ⌝ }
 {
     match x {
         Steps::Lengths(pair) => {
@@ -99,7 +99,7 @@ fn standing_number(s: Standing) -> u8
 }
 
 pub fn stands(x: Stands, standing: &mut u8) -> u8
-    ensures { λ r. ⌜ report r (whole (now (standing .exit)) ∷ []) ≡ Reported (whole (now (standing .entry)) ∷ []) (ofStands x) ⌝ }
+    ensures { λ r. ⌜ report r (whole (now (standing .exit)) ∷ []) ≡ Reported Values (whole (now (standing .entry)) ∷ []) (ofStands x) ⌝ }
 {
     match x {
         Stands::As(s) => {

@@ -13,7 +13,7 @@ use Rattle.answers.proofs.Laws.{clear-both, clear-lengths}
 use Rattle.conelist.specs.declared.Kind.{Kind}
 use Rattle.conelist.specs.declared.Kind.the-variants.{SecondOrder}
 use Rattle.conelist.specs.declared.Place.{Place}
-use Rattle.conelist.specs.Layout.{Dim, LeastDim, BlockDim, Misplaced, FitAnd, AllFit, RefusalAt, Ready, Fits, Open, Part, Put}
+use Rattle.conelist.specs.Layout.{Dim, LeastDim, BlockDim, Carried, Counted, Misplaced, Spot, FitAnd, AllFit, RefusalAt, Ready, Fits, Open, Part, Put}
 
 -- ---- the tests of `within`
 
@@ -27,16 +27,16 @@ moved at n all h = go (leb at (all - n)) refl
     go true e = let l = leb-true at (all - n) e in sym (le-leb (at + n) all (omega arith))
     go false e = let l = leb-false at (all - n) e in sym (lt-leb (at + n) all (omega arith))
 
--- ---- the test of `misplaced`: n, least, m, s and t are what it computed
-module _ (p : Place) (n least m : ℕ) (s t : Bool) (e : n ≡ Dim (p .kind)) (f : least ≡ LeastDim (p .kind)) (d : m ≡ BlockDim (p .kind)) (u : s ≡ leb (p .start + n) (p .entries))
-    (v : t ≡ leb (p .block + m) (p .blocks)) where
-  pub fine : leb least n && leb n 4096 && s && ltb (p .index) (p .count) && t ≡ true → 0 ≡ Misplaced p
+-- ---- the test of `misplaced`: n, least, m, s, t and q are what it computed
+module _ (p : Place) (n least m : ℕ) (s t q : Bool) (e : n ≡ Dim (p .kind)) (f : least ≡ LeastDim (p .kind)) (d : m ≡ BlockDim (p .kind)) (u : s ≡ leb (p .start + n) (p .entries))
+    (v : t ≡ leb (p .block + m) (p .blocks)) (w : q ≡ Counted p) where
+  pub fine : leb least n && leb n 4096 && s && ltb (p .index) (p .count) && t && q ≡ true → 0 ≡ Misplaced p
   unfolding Misplaced
-  fine h = rw (← d, ← f, ← e, ← u, ← v, h)
+  fine h = rw (← d, ← f, ← e, ← u, ← v, ← w, h)
 
-  pub bad : leb least n && leb n 4096 && s && ltb (p .index) (p .count) && t ≡ false → 4 ≡ Misplaced p
+  pub bad : leb least n && leb n 4096 && s && ltb (p .index) (p .count) && t && q ≡ false → 4 ≡ Misplaced p
   unfolding Misplaced
-  bad h = rw (← d, ← f, ← e, ← u, ← v, h)
+  bad h = rw (← d, ← f, ← e, ← u, ← v, ← w, h)
 
 pub ruleset spots = (fine, bad)
 
@@ -53,7 +53,7 @@ clear false e = absurd (omega arith)
 pub clear-misplaced : (p : Place) → Misplaced p ≡ 0 → Ready p
 unfolding Misplaced
 clear-misplaced p e =
-    let r = both _ _ (clear _ e) in
+    let r = both _ _ (both _ _ (clear _ e) .0) in
     let s = both _ _ (r .0) in
     let t = both _ _ (s .0) in
     let u = both _ _ (t .0) in
@@ -64,6 +64,18 @@ clear-misplaced p e =
       named = ltb-true _ _ (s .1);
       block-inside = leb-true _ _ (r .1);
     }
+
+-- it carries no refusal, and lies inside
+pub clear-carried : (p : Place) → Carried p ≡ 0 → p .no ≡ 0
+unfolding Carried
+clear-carried p e = go (leb (p .no) 4) e
+  where
+    go : (t : Bool) → _≡_ {A = ℕ} (cond t (p .no) 4) 0 → p .no ≡ 0
+    go true e = e
+    go false e = absurd (omega arith)
+
+pub clear-spot : (p : Place) → Spot p ≡ 0 → (p .no ≡ 0) × Ready p
+clear-spot p e = let r = clear-both _ _ e in (clear-carried p (r .0), clear-misplaced p (r .1))
 
 fit-and : (t : Bool) (ms : List (ℕ × ℕ)) → FitAnd t ms ≡ true → (t ≡ true) × Fits ms
 fit-and t [] e = (e, tt)
@@ -80,7 +92,7 @@ all-fit (m ∷ ms) e = let r = fit-and (eqb (m .0) (m .1)) ms e in (eqb-true (m 
 pub open-at : (p : Place) (ms : List (ℕ × ℕ)) (k : ℕ) → k ≡ RefusalAt p ms → k ≡ 0 → Open p ms
 open-at p ms k e z =
     let r = clear-both _ _ (sym e ∙ z) in
-    record { here = clear-misplaced p (clear-both _ _ (r .0) .1); same = all-fit ms (clear-lengths _ (r .1)) }
+    record { here = clear-spot p (r .0) .1; same = all-fit ms (clear-lengths _ (r .1)) }
 
 -- ---- a range that is lent, and given back: n is what `dim` gave for m
 
@@ -88,7 +100,7 @@ pub lent : {n m : ℕ} → n ≡ m → (at : ℕ) (z : List Float) → take (at 
 unfolding Part
 lent e at z = rw (add-sub-cancel-left, e)
 
-pub back : {n m : ℕ} → n ≡ m → (at : ℕ) (z : List Float) {part new : List Float} → part ≡ new → take at z ++ (part ++ drop (at + n - at) (drop at z)) ≡ Put at m z new
+pub back : {A : Type 0} {n m : ℕ} → n ≡ m → (at : ℕ) (z : List A) {part new : List A} → part ≡ new → take at z ++ (part ++ drop (at + n - at) (drop at z)) ≡ Put at m z new
 unfolding Put
 back e at z f = rw (add-sub-cancel-left, e, f)
 

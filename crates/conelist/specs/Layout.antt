@@ -1,12 +1,11 @@
 -- Document 01, "The list and its buffers" and "Refusal numbers": where each cone of a list lies, and the refusals of rank up to 4. Assumes nothing.
-use Prim.Native.Nat.{ℕ, zero, suc, _+_, _*_, _/_, _≤_, _<_}
+use Prim.Native.Nat.{ℕ, zero, suc, _+_, _≤_, _<_}
 use mathlib.Core.Path.{_≡_}
 use mathlib.Core.Bool.{Bool, true, cond, _&&_}
 use mathlib.Core.List.{List, [], _∷_, _++_}
 use lib.Dec.{ltb, leb, eqb}
 use lib.ListN.{length, take, drop}
-use lib.Ieee.{Float}
-use Rattle.answers.specs.Refusal.{_⊳_, BadDimension, Unlike}
+use Rattle.answers.specs.Refusal.{_⊳_, BadDimension, BlockLength, Unlike}
 use Rattle.conelist.specs.declared.Kind.{Kind}
 use Rattle.conelist.specs.declared.Kind.the-variants.{Nonnegative, SecondOrder}
 use Rattle.conelist.specs.declared.Cone.{Cone}
@@ -27,7 +26,7 @@ LeastDim (SecondOrder n) = 2
 -- "A block has n numbers for a nonnegative cone or a second-order cone above 4 (sparse), n(n+1)/2 for a dense one"
 abbrev pub BlockDim : Kind → ℕ
 BlockDim (Nonnegative n) = n
-BlockDim (SecondOrder n) = cond (ltb 4 n) n (n * (n + 1) / 2)
+BlockDim (SecondOrder n) = BlockLength n
 
 -- ---- one cone behind another
 
@@ -71,8 +70,8 @@ Found (suc n) p = Alone (suc n)
 
 -- cone k, where the list is not refused: "w, lambda, .. are as long as all entries together; η and d have one number per cone; the block
 -- buffer holds each cone's Hs block behind the other"
-abbrev pub Row : List Cone → ℕ → Place
-Row cs k =
+abbrev pub LaidAt : List Cone → ℕ → Place
+LaidAt cs k =
     record {
       no = BadPlace cs k;
       index = k;
@@ -85,19 +84,28 @@ Row cs k =
     }
 
 unfoldable pub PlaceOf : List Cone → ℕ → Place
-PlaceOf cs k = Found (BadPlace cs k) (Row cs k)
+PlaceOf cs k = Found (BadPlace cs k) (LaidAt cs k)
 
 -- ---- a place that is handed to a call: it may be one that no list gives
 
--- 4 too, for such a place: its dimension is outside its range, its entries or its block lie past the end, or its index is not below the
--- count. A place that `PlaceOf` gives is never refused so: `spot`, crates/conewalk/proofs/Laid
+-- the refusal that it carries: 1 to 4 are a list's; a number above 4 is none, and counts as 4
+unfoldable pub Carried : Place → ℕ
+Carried p = cond (leb (p .no) 4) (p .no) 4
+
+-- its counts are in range: no list has over 256 cones or 65,536 entries, and no cone over three block numbers an entry
+abbrev pub Counted : Place → Bool
+Counted p = leb (p .count) 256 && leb (p .entries) 65536 && leb (p .blocks) 196608
+
+-- 4 too, where it can be told that no list gives the place: its dimension or a count is outside its range, its entries or its block lie past
+-- the end, or its index is not below the count. The rest of it is taken at its word. A place that `PlaceOf` gives is never refused so: `spot`,
+-- crates/conewalk/proofs/Laid
 unfoldable pub Misplaced : Place → ℕ
 Misplaced p =
     let n = Dim (p .kind) in
-    cond (leb (LeastDim (p .kind)) n && leb n 4096 && leb (p .start + n) (p .entries) && ltb (p .index) (p .count) && leb (p .block + BlockDim (p .kind)) (p .blocks)) 0 4
+    cond (leb (LeastDim (p .kind)) n && leb n 4096 && leb (p .start + n) (p .entries) && ltb (p .index) (p .count) && leb (p .block + BlockDim (p .kind)) (p .blocks) && Counted p) 0 4
 
 abbrev pub Spot : Place → ℕ
-Spot p = p .no ⊳ Misplaced p
+Spot p = Carried p ⊳ Misplaced p
 
 -- each lent slice, by its length and the length that it must have
 abbrev pub FitAnd : Bool → List (ℕ × ℕ) → Bool
@@ -130,21 +138,21 @@ pub record Open (p : Place) (ms : List (ℕ × ℕ)) : Type 0 where
 
 -- ---- "the cone's own range of each buffer, from its start": n numbers from `at` on; and the buffer with that range replaced
 
-unfoldable pub Part : ℕ → ℕ → List Float → List Float
+unfoldable pub Part : {A : Type 0} → ℕ → ℕ → List A → List A
 Part at n y = take n (drop at y)
 
-unfoldable pub Put : ℕ → ℕ → List Float → List Float → List Float
+unfoldable pub Put : {A : Type 0} → ℕ → ℕ → List A → List A → List A
 Put at n y new = take at y ++ (new ++ drop n (drop at y))
 
 -- a cone's own range of a number per entry, and of the blocks
-abbrev pub Of : Place → List Float → List Float
+abbrev pub Of : {A : Type 0} → Place → List A → List A
 Of p y = Part (p .start) (Dim (p .kind)) y
 
-abbrev pub With : Place → List Float → List Float → List Float
+abbrev pub With : {A : Type 0} → Place → List A → List A → List A
 With p y new = Put (p .start) (Dim (p .kind)) y new
 
-abbrev pub OfBlock : Place → List Float → List Float
+abbrev pub OfBlock : {A : Type 0} → Place → List A → List A
 OfBlock p y = Part (p .block) (BlockDim (p .kind)) y
 
-abbrev pub WithBlock : Place → List Float → List Float → List Float
+abbrev pub WithBlock : {A : Type 0} → Place → List A → List A → List A
 WithBlock p y new = Put (p .block) (BlockDim (p .kind)) y new

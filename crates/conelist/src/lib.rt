@@ -4,7 +4,7 @@ ghost use mathlib.Core.Path.{_≡_};
 ghost use Prim.Native.Nat.{_+_};
 ghost use lib.Dec.{leb};
 ghost use Rattle.answers.specs.Refusal.{_⊳_, Unlike};
-ghost use Rattle.conelist.specs.Layout.{Dim, LeastDim, BlockDim, Misplaced, Spot};
+ghost use Rattle.conelist.specs.Layout.{Dim, LeastDim, BlockDim, Carried, Counted, Misplaced, Spot};
 
 // ---- the records
 
@@ -19,7 +19,8 @@ pub struct Cone {
 }
 
 // Where a cone lies: the refusal that finding it met (0: none), its index, its start and kind, and where its block begins; then how many
-// entries, cones and block numbers the list has.
+// entries, cones and block numbers the list has. `conewalk::place_of` makes one. Any other is refused with 4 as far as that can be told
+// (`misplaced`), and is else taken at its word.
 pub struct Place {
     pub no: u8,
     pub index: usize,
@@ -69,7 +70,21 @@ fn within(at: usize, n: usize, all: usize) -> bool
     if all < n { false } else { at <= all - n }
 }
 
-// A place that no list gives.
+// The refusal that it carries; a number above 4 is no list's.
+fn carried(p: Place) -> u8
+    ensures { λ r. ⌜ r ≡ Carried p ⌝ }
+{
+    if p.no <= 4 { p.no } else { 4 }
+}
+
+// Whether its counts are in range.
+fn counted(p: Place) -> bool
+    ensures { λ r. ⌜ r ≡ Counted p ⌝ }
+{
+    (p.count <= 256) & (p.entries <= 65536) & (p.blocks <= 196608)
+}
+
+// A place that no list gives, as far as that can be told.
 fn misplaced(p: Place) -> u8
     ensures { λ r. ⌜ r ≡ Misplaced p ⌝ }
 {
@@ -78,7 +93,7 @@ fn misplaced(p: Place) -> u8
     let least = least_dim(kind);
     let entries = within(p.start, n, p.entries);
     let block = within(p.block, block_dim(kind), p.blocks);
-    if (least <= n) & (n <= 4096) & entries & (p.index < p.count) & block {
+    if (least <= n) & (n <= 4096) & entries & (p.index < p.count) & block & counted(p) {
         0
     } else {
         4
@@ -89,7 +104,7 @@ fn misplaced(p: Place) -> u8
 pub fn spot(p: Place) -> u8
     ensures { λ r. ⌜ r ≡ Spot p ⌝ }
 {
-    answers::first_refusal(p.no, misplaced(p))
+    answers::first_refusal(carried(p), misplaced(p))
 }
 
 // The refusals of a call over a place: 1 to 4, then 5, where `same` says that each slice has its length.

@@ -48,7 +48,8 @@ use Rattle.registers.proofs.Regs.{check, body}
 use Rattle.registers.proofs.Meet.{Known, Knowns, known-slice, known-slice-mut, known-uint, known-float, known-bool, known-ref, known-ref-mut, known-struct, known-enum, spelled, Fit, proved, Post, ends, calls}
 use Rattle.conelist.specs.declared.Place.{Place}
 use Rattle.conelist.specs.declared.Cone.{Cone}
-use Rattle.conewalk.proofs.Element.{Lent}
+use Rattle.walks.proofs.Element.{Lent}
+use Rattle.walks.proofs.Walk.{same⊢}
 use Rattle.conelist.proofs.Cone as T
 use Rattle.conelist.proofs.Place as S
 use Rattle.conelist.proofs.Place.Laws as S′
@@ -80,10 +81,7 @@ abbrev pub tailFlat : (Ts : List RattleType) → Valss Ts → List Val
 tailFlat [] vss = []
 tailFlat (T ∷ Ts) vss = flat Ts (vss .1)
 
-same⊢ : {M : Type 1} (𝓤 : URA M) (P Q : SProp 𝓤) → P ≡ Q → ent 𝓤 P Q
-same⊢ 𝓤 P Q e = subst (λ (X : SProp 𝓤). ent 𝓤 P X) e (id⊢ 𝓤 P)
-
-sameF : {M : Type 1} (𝓤 : URA M) (H : Heap 𝓤) (A : Atoms 𝓤) (P Q : Fml) → P ≡ Q → ent 𝓤 (sem 𝓤 H A P) (sem 𝓤 H A Q)
+pub sameF : {M : Type 1} (𝓤 : URA M) (H : Heap 𝓤) (A : Atoms 𝓤) (P Q : Fml) → P ≡ Q → ent 𝓤 (sem 𝓤 H A P) (sem 𝓤 H A Q)
 sameF 𝓤 H A P Q e = subst (λ (X : Fml). ent 𝓤 (sem 𝓤 H A P) (sem 𝓤 H A X)) e (id⊢ 𝓤 (sem 𝓤 H A P))
 
 module _ {M : Type 1} (𝓤 : URA M) (H : Heap 𝓤) (A : Atoms 𝓤) (W : Given 𝓤 H A) (mem : Memory → SProp 𝓤) (run : Routine → Fun 𝓤) (C : Calls 𝓤 H) (fm : FmC 𝓤 H (W .laws) C)

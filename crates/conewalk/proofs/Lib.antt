@@ -1,7 +1,6 @@
 -- `Records`: what the tests of a record and of a walk's step say. `Walked`: the walk comes to document 01's place. `Laid`: the cones of a list
--- lie one behind another. `Element`: a record of the lent row is read. `Forward`: a call over the row is proved from the call over the place.
+-- lie one behind another. `Forward`: a call over the row is proved from the call over the place.
 pub mod Records
 pub mod Walked
 pub mod Laid
-pub mod Element
 pub mod Forward

@@ -11,7 +11,7 @@ use Rattle.conelist.specs.declared.Cone.{Cone}
 use Rattle.conelist.specs.declared.Place.{Place}
 use Rattle.conelist.specs.Layout.{Dim, LeastDim, BlockDim, BadRecord, Alone, Found}
 use Rattle.conelist.proofs.Blocks.{block-most}
-use Rattle.conewalk.specs.Walk.{Seen, StepOf, Closing, Going}
+use Rattle.conewalk.specs.Walk.{PlaceSeen, PlaceFurther, PlaceClosing, Going}
 
 -- ---- a record that is not refused
 
@@ -72,28 +72,28 @@ pub ruleset records = (bad-dimension, bad-start, bad-total, not-bad)
 
 -- ---- a step of the walk, case by case
 
-pub stopped : (p : Place) (c : Cone) → (p .no ≡ 0 → ⊥) → p ≡ StepOf p c
-unfolding StepOf
+pub stopped : (p : Place) (c : Cone) → (p .no ≡ 0 → ⊥) → p ≡ PlaceFurther p c
+unfolding PlaceFurther
 stopped p c h = rw (ne-eqb (p .no) 0 h)
 
 module _ (p : Place) (c : Cone) (no : ℕ) (f : no ≡ BadRecord (p .entries) c) (z : p .no ≡ 0) where
-  pub turned-away : (r : Place) → (no ≡ 0 → ⊥) → r ≡ Alone no → r ≡ StepOf p c
-  unfolding StepOf
+  pub turned-away : (r : Place) → (no ≡ 0 → ⊥) → r ≡ Alone no → r ≡ PlaceFurther p c
+  unfolding PlaceFurther
   turned-away r h e = rw (eq-eqb (p .no) 0 z, ← f, e) (go no h)
     where
-      go : (k : ℕ) → (k ≡ 0 → ⊥) → Alone k ≡ Found k (Seen p c)
+      go : (k : ℕ) → (k ≡ 0 → ⊥) → Alone k ≡ Found k (PlaceSeen p c)
       go zero h = absurd (h refl)
       go (suc k) h = refl
 
   module _ (y : no ≡ 0) (n m : ℕ) (e : n ≡ Dim (c .kind)) (d : m ≡ BlockDim (c .kind)) where
     pub seen-here : p .count ≡ p .index
-        → record { no = 0; index = p .index; start = p .entries; kind = c .kind; block = p .blocks; entries = p .entries + n; count = p .count + 1; blocks = p .blocks + m } ≡ StepOf p c
-    unfolding StepOf
+        → record { no = 0; index = p .index; start = p .entries; kind = c .kind; block = p .blocks; entries = p .entries + n; count = p .count + 1; blocks = p .blocks + m } ≡ PlaceFurther p c
+    unfolding PlaceFurther
     seen-here h = rw (eq-eqb (p .no) 0 z, ← f, y, eq-eqb (p .count) (p .index) h, e, d)
 
     pub seen-other : (p .count ≡ p .index → ⊥)
-        → record { no = 0; index = p .index; start = p .start; kind = p .kind; block = p .block; entries = p .entries + n; count = p .count + 1; blocks = p .blocks + m } ≡ StepOf p c
-    unfolding StepOf
+        → record { no = 0; index = p .index; start = p .start; kind = p .kind; block = p .block; entries = p .entries + n; count = p .count + 1; blocks = p .blocks + m } ≡ PlaceFurther p c
+    unfolding PlaceFurther
     seen-other h = rw (eq-eqb (p .no) 0 z, ← f, y, ne-eqb (p .count) (p .index) h, e, d)
 
   -- what is added fits
@@ -107,16 +107,16 @@ pub ruleset steps = (stopped, turned-away, seen-here, seen-other, entries-fit, b
 
 -- ---- behind the last record
 
-pub closed : (p : Place) → (p .no ≡ 0 → ⊥) → p ≡ Closing p
-unfolding Closing
+pub closed : (p : Place) → (p .no ≡ 0 → ⊥) → p ≡ PlaceClosing p
+unfolding PlaceClosing
 closed p h = rw (ne-eqb (p .no) 0 h)
 
-pub is-there : (p : Place) → p .no ≡ 0 → p .index < p .count → p ≡ Closing p
-unfolding Closing
+pub is-there : (p : Place) → p .no ≡ 0 → p .index < p .count → p ≡ PlaceClosing p
+unfolding PlaceClosing
 is-there p z h = rw (eq-eqb (p .no) 0 z, lt-ltb (p .index) (p .count) h)
 
-pub not-there : (p r : Place) → p .no ≡ 0 → p .count ≤ p .index → r ≡ Alone 4 → r ≡ Closing p
-unfolding Closing
+pub not-there : (p r : Place) → p .no ≡ 0 → p .count ≤ p .index → r ≡ Alone 4 → r ≡ PlaceClosing p
+unfolding PlaceClosing
 not-there p r z h e = rw (eq-eqb (p .no) 0 z, le-ltb (p .index) (p .count) h, e)
 
 pub ruleset closings = (closed, is-there, not-there)

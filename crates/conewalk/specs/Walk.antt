@@ -1,24 +1,19 @@
 -- How `place_of` goes over the records. That it comes to `PlaceOf` is proved: proofs/Walked. Assumes nothing.
 use Prim.Native.Nat.{ℕ, _+_, _*_, _≤_, _<_, _^_}
 use mathlib.Core.Bool.{cond}
-use mathlib.Core.List.{List, [], _∷_}
 use lib.Dec.{ltb, eqb}
 use Rattle.conelist.specs.declared.Kind.the-variants.{Nonnegative}
 use Rattle.conelist.specs.declared.Cone.{Cone}
 use Rattle.conelist.specs.declared.Place.{Place}
 use Rattle.conelist.specs.Layout.{Dim, BlockDim, BadRecord, Found}
 
--- what stands past the end of a list
-abbrev pub noCone : Cone
-noCone = record { start = 0; kind = Nonnegative 0 }
-
 -- before the first record: the entries, cones and block numbers seen so far are none
-unfoldable pub Opening : ℕ → ℕ → Place
-Opening cones k = Found (cond (ltb 256 cones) 2 0) (record { no = 0; index = k; start = 0; kind = Nonnegative 0; block = 0; entries = 0; count = 0; blocks = 0 })
+unfoldable pub PlaceOpening : ℕ → ℕ → Place
+PlaceOpening cones k = Found (cond (ltb 256 cones) 2 0) (record { no = 0; index = k; start = 0; kind = Nonnegative 0; block = 0; entries = 0; count = 0; blocks = 0 })
 
 -- a record that is not refused is seen: the cone asked for is the one that so many cones stand before
-abbrev pub Seen : Place → Cone → Place
-Seen p c =
+abbrev pub PlaceSeen : Place → Cone → Place
+PlaceSeen p c =
     let here = eqb (p .count) (p .index) in
     record {
       no = 0;
@@ -31,16 +26,12 @@ Seen p c =
       blocks = p .blocks + BlockDim (c .kind);
     }
 
-unfoldable pub StepOf : Place → Cone → Place
-StepOf p c = cond (eqb (p .no) 0) (Found (BadRecord (p .entries) c) (Seen p c)) p
-
-abbrev pub FoldFrom : List Cone → Place → Place
-FoldFrom [] p = p
-FoldFrom (c ∷ cs) p = FoldFrom cs (StepOf p c)
+unfoldable pub PlaceFurther : Place → Cone → Place
+PlaceFurther p c = cond (eqb (p .no) 0) (Found (BadRecord (p .entries) c) (PlaceSeen p c)) p
 
 -- behind the last record
-unfoldable pub Closing : Place → Place
-Closing p = cond (eqb (p .no) 0) (Found (cond (ltb (p .index) (p .count)) 0 4) p) p
+unfoldable pub PlaceClosing : Place → Place
+PlaceClosing p = cond (eqb (p .no) 0) (Found (cond (ltb (p .index) (p .count)) 0 4) p) p
 
 -- what a walk that is on its way has: its sums stay small
 pub record Going (p : Place) : Type 0 where

@@ -5,7 +5,7 @@ use conelist::Kind;
 use conelist::Place;
 ghost use mathlib.Core.Path.{_≡_};
 ghost use Rattle.conelist.specs.Layout.{BadRecord, Alone, PlaceOf};
-ghost use Rattle.conewalk.specs.Walk.{Opening, StepOf, Closing, Going};
+ghost use Rattle.conewalk.specs.Walk.{PlaceOpening, PlaceFurther, PlaceClosing, Going};
 
 // A refusal: its number alone.
 fn alone(no: u8) -> Place
@@ -40,8 +40,8 @@ pub fn record_refusal(total: usize, c: Cone) -> u8
 }
 
 // The walk for cone k of a list of so many cones, before its first record: none is counted yet.
-pub fn opening(cones: usize, k: usize) -> Place
-    ensures { λ r. ⌜ r ≡ Opening cones k ⌝ }
+pub fn place_opening(cones: usize, k: usize) -> Place
+    ensures { λ r. ⌜ r ≡ PlaceOpening cones k ⌝ }
 {
     if 256 < cones {
         return alone(2);
@@ -59,9 +59,9 @@ pub fn opening(cones: usize, k: usize) -> Place
 }
 
 // The walk over one record more.
-pub fn step(p: Place, c: Cone) -> Place
+pub fn place_further(p: Place, c: Cone) -> Place
     requires { ⌜ Going p ⌝ }
-    ensures { λ r. ⌜ r ≡ StepOf p c ⌝ }
+    ensures { λ r. ⌜ r ≡ PlaceFurther p c ⌝ }
 {
     if p.no != 0 {
         return p;
@@ -100,8 +100,8 @@ pub fn step(p: Place, c: Cone) -> Place
 }
 
 // The walk behind its last record: the cone is in the list, or it is not.
-pub fn closing(p: Place) -> Place
-    ensures { λ r. ⌜ r ≡ Closing p ⌝ }
+pub fn place_closing(p: Place) -> Place
+    ensures { λ r. ⌜ r ≡ PlaceClosing p ⌝ }
 {
     if p.no != 0 {
         return p;
@@ -113,11 +113,11 @@ pub fn closing(p: Place) -> Place
 pub fn place_of(list: &[Cone], k: usize) -> Place
     ensures { λ r. ⌜ r ≡ PlaceOf (now (list .entry)) k ⌝ }
 {
-    let mut p = opening(list.len(), k);
+    let mut p = place_opening(list.len(), k);
     let mut i: usize = 0;
     while i < list.len() {
-        p = step(p, list[i]);
+        p = place_further(p, list[i]);
         i += 1;
     }
-    closing(p)
+    place_closing(p)
 }

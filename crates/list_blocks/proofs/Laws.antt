@@ -1,7 +1,7 @@
 -- How long a kind's block is. Assumes nothing.
 use Prim.Native.Nat.{ℕ}
 use mathlib.Core.Path.{_≡_}
-use Rattle.soc_blocks.specs.Block.{BlockLength}
+use Rattle.answers.specs.Refusal.{BlockLength}
 use Rattle.conelist.specs.declared.Kind.{Kind}
 use Rattle.conelist.specs.declared.Kind.the-variants.{Nonnegative, SecondOrder}
 use Rattle.conelist.specs.Layout.{Dim, BlockDim}
@@ -10,5 +10,4 @@ pub nonnegative-block : (kind : Kind) (n : ℕ) → kind ≡ Nonnegative n → B
 nonnegative-block kind n e = rw e
 
 pub second-order-block : (kind : Kind) (n : ℕ) → kind ≡ SecondOrder n → BlockDim kind ≡ BlockLength (Dim kind)
-unfolding BlockLength
 second-order-block kind n e = rw e

@@ -3,11 +3,12 @@ use mathlib.Core.Path.{_≡_}
 use mathlib.Core.List.{List}
 use lib.Ieee.{Float}
 use Rattle.answers.specs.declared.Answer.{Answer}
-use Rattle.answers.specs.Outcome.{Contents, told}
+use Rattle.answers.specs.Outcome.{tells, ofAnswer}
 use Rattle.answers.proofs.Unique.{one-answer}
 use Rattle.conelist.specs.declared.Place.{Place}
-use Rattle.list_blocks.specs.Block.{GetHsAt}
+use Rattle.conecalls.specs.Deed.{Whole, Tuple, At}
+use Rattle.list_blocks.specs.Block.{GetHsDeed}
 
 module _ (p : Place) where
-  get-hs-at : {r r′ : Answer} {e e′ : Contents} (hs w η d : List Float) → told r e ≡ GetHsAt p hs w η d → told r′ e′ ≡ GetHsAt p hs w η d → (r ≡ r′) × (e ≡ e′)
+  get-hs-at : {r r′ : Answer} (hs w η d : List Float) {e e′ : Tuple Whole (GetHsDeed .writes)} → tells (ofAnswer r) e ≡ At p GetHsDeed hs w η d → tells (ofAnswer r′) e′ ≡ At p GetHsDeed hs w η d → (r ≡ r′) × (e ≡ e′)
   get-hs-at hs w η d = one-answer

@@ -8,9 +8,10 @@ ghost use mathlib.Core.List.{[], _∷_};
 ghost use lib.ListN.{length};
 ghost use Rattle.vecmath.specs.Double.{_!_};
 ghost use Rattle.answers.specs.Refusal.{Fit};
-ghost use Rattle.answers.specs.Outcome.{told};
+ghost use Rattle.answers.specs.Outcome.{tells, ofAnswer, _⨾_};
 ghost use Rattle.conelist.specs.Layout.{Dim, LeastDim, BlockDim, Open, Of, WithBlock};
-ghost use Rattle.list_blocks.specs.Block.{KindHs, GetHsAt};
+ghost use Rattle.conecalls.specs.Deed.{At};
+ghost use Rattle.list_blocks.specs.Block.{KindHs, GetHsDeed};
 
 // A nonnegative cone uses no η, d.
 fn kind_hs(kind: Kind, hs: &mut [f64], w: &[f64], eta: f64, d: f64)
@@ -39,7 +40,7 @@ fn hs_in(p: Place, hs: &mut [f64], w: &[f64], eta: &[f64], d: &[f64])
 }
 
 pub fn get_hs_at(p: Place, hs: &mut [f64], w: &[f64], eta: &[f64], d: &[f64]) -> Answer
-    ensures { λ r. ⌜ told r (now (hs .exit) ∷ []) ≡ GetHsAt p (now (hs .entry)) (now (w .entry)) (now (eta .entry)) (now (d .entry)) ⌝ }
+    ensures { λ r. ⌜ tells (ofAnswer r) (now (hs .exit) ⨾ tt) ≡ At p GetHsDeed (now (hs .entry)) (now (w .entry)) (now (eta .entry)) (now (d .entry)) ⌝ }
 {
     let entries = p.entries;
     let count = p.count;

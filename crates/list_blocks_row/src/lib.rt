@@ -2,14 +2,14 @@
 use answers::Answer;
 use conelist::Cone;
 ghost use mathlib.Core.Path.{_≡_};
-ghost use mathlib.Core.List.{[], _∷_};
-ghost use Rattle.answers.specs.Outcome.{told};
+ghost use Rattle.answers.specs.Outcome.{tells, ofAnswer, _⨾_};
 ghost use Rattle.conelist.specs.Layout.{PlaceOf};
-ghost use Rattle.list_blocks.specs.Block.{GetHsAt};
+ghost use Rattle.conecalls.specs.Deed.{At};
+ghost use Rattle.list_blocks.specs.Block.{GetHsDeed};
 
 pub fn get_hs(list: &[Cone], k: usize, hs: &mut [f64], w: &[f64], eta: &[f64], d: &[f64]) -> Answer
-    ensures { λ r. ⌜ told r (now (hs .exit) ∷ [])
-        ≡ GetHsAt (PlaceOf (now (list .entry)) k) (now (hs .entry)) (now (w .entry)) (now (eta .entry)) (now (d .entry)) ⌝ }
+    ensures { λ r. ⌜ tells (ofAnswer r) (now (hs .exit) ⨾ tt)
+        ≡ At (PlaceOf (now (list .entry)) k) GetHsDeed (now (hs .entry)) (now (w .entry)) (now (eta .entry)) (now (d .entry)) ⌝ }
 {
     let p = conewalk::place_of(list, k);
     list_blocks::get_hs_at(p, hs, w, eta, d)

@@ -7,12 +7,11 @@ use conelist::Place;
 ghost use mathlib.Core.Path.{_≡_};
 ghost use mathlib.Core.List.{[], _∷_};
 ghost use lib.ListN.{length};
-ghost use Rattle.vecmath.specs.Double.{_!_};
 ghost use Rattle.answers.specs.Refusal.{Fit};
-ghost use Rattle.answers.specs.Outcome.{told};
-ghost use Rattle.conelist.specs.Layout.{LeastDim, Open, Of};
-ghost use Rattle.conecalls.specs.At.{entries, Backs};
-ghost use Rattle.list_combined.specs.Combined.{KindCombined, CombinedDsShiftAt};
+ghost use Rattle.answers.specs.Outcome.{tells, ofAnswer, _⨾_};
+ghost use Rattle.conelist.specs.Layout.{LeastDim, Open};
+ghost use Rattle.conecalls.specs.Deed.{At, WorksAt};
+ghost use Rattle.list_combined.specs.Combined.{KindCombined, CombinedDsShiftDeed};
 
 // A nonnegative cone uses no η.
 fn kind_combined(
@@ -25,12 +24,18 @@ fn kind_combined(
     eta: f64,
 )
     requires { ⌜ Fit (LeastDim kind) (length (now shift)) (length (now «step_z») ∷ length (now «step_s») ∷ length (now w) ∷ []) ⌝ }
-    ensures { λ _. ⌜ now (shift .exit) ∷ now («step_z» .exit) ∷ now («step_s» .exit) ∷ []
+    ensures { λ _. ⌜ now (shift .exit) ⨾ now («step_z» .exit) ⨾ now («step_s» .exit) ⨾ tt
         ≡ KindCombined kind (now («step_z» .entry)) (now («step_s» .entry)) «sigma_mu» (now (w .entry)) eta ⌝ }
 {
     match kind {
-        Kind::Nonnegative(n) => symmetric_common::nn_combined(shift, step_z, step_s, sigma_mu, w),
-        Kind::SecondOrder(n) => symmetric_common::soc_combined(
+        Kind::Nonnegative(n) => symmetric_common::nonnegative_shift(
+            shift,
+            step_z,
+            step_s,
+            sigma_mu,
+            w,
+        ),
+        Kind::SecondOrder(n) => symmetric_common::second_order_shift(
             shift,
             step_z,
             step_s,
@@ -52,10 +57,8 @@ fn combined_in(
 )
     requires { ⌜ Open p ((length (now shift), p .entries) ∷ (length (now «step_z»), p .entries) ∷ (length (now «step_s»), p .entries)
         ∷ (length (now w), p .entries) ∷ (length (now eta), p .count) ∷ []) ⌝ }
-    ensures { λ _. ⌜ now (shift .exit) ∷ now («step_z» .exit) ∷ now («step_s» .exit) ∷ []
-        ≡ Backs p ((entries, now (shift .entry)) ∷ (entries, now («step_z» .entry)) ∷ (entries, now («step_s» .entry)) ∷ [])
-        (KindCombined (p .kind) (Of p (now («step_z» .entry))) (Of p (now («step_s» .entry))) «sigma_mu» (Of p (now (w .entry)))
-        (now (eta .entry) ! (p .index))) ⌝ }
+    ensures { λ _. ⌜ now (shift .exit) ⨾ now («step_z» .exit) ⨾ now («step_s» .exit) ⨾ tt
+        ≡ WorksAt p (CombinedDsShiftDeed «sigma_mu») (now (shift .entry)) (now («step_z» .entry)) (now («step_s» .entry)) (now (w .entry)) (now (eta .entry)) .news ⌝ }
 {
     let at = p.start;
     let kind = p.kind;
@@ -81,9 +84,8 @@ pub fn combined_ds_shift_at(
     w: &[f64],
     eta: &[f64],
 ) -> Answer
-    ensures { λ r. ⌜ told r (now (shift .exit) ∷ now («step_z» .exit) ∷ now («step_s» .exit) ∷ [])
-        ≡ CombinedDsShiftAt p (now (shift .entry)) (now («step_z» .entry)) (now («step_s» .entry)) «sigma_mu» (now (w .entry))
-        (now (eta .entry)) ⌝ }
+    ensures { λ r. ⌜ tells (ofAnswer r) (now (shift .exit) ⨾ now («step_z» .exit) ⨾ now («step_s» .exit) ⨾ tt)
+        ≡ At p (CombinedDsShiftDeed «sigma_mu») (now (shift .entry)) (now («step_z» .entry)) (now («step_s» .entry)) (now (w .entry)) (now (eta .entry)) ⌝ }
 {
     let entries = p.entries;
     let count = p.count;

@@ -2,10 +2,10 @@
 use answers::Answer;
 use conelist::Cone;
 ghost use mathlib.Core.Path.{_≡_};
-ghost use mathlib.Core.List.{[], _∷_};
-ghost use Rattle.answers.specs.Outcome.{told};
+ghost use Rattle.answers.specs.Outcome.{tells, ofAnswer, _⨾_};
 ghost use Rattle.conelist.specs.Layout.{PlaceOf};
-ghost use Rattle.list_combined.specs.Combined.{CombinedDsShiftAt};
+ghost use Rattle.conecalls.specs.Deed.{At};
+ghost use Rattle.list_combined.specs.Combined.{CombinedDsShiftDeed};
 
 pub fn combined_ds_shift(
     list: &[Cone],
@@ -17,9 +17,8 @@ pub fn combined_ds_shift(
     w: &[f64],
     eta: &[f64],
 ) -> Answer
-    ensures { λ r. ⌜ told r (now (shift .exit) ∷ now («step_z» .exit) ∷ now («step_s» .exit) ∷ [])
-        ≡ CombinedDsShiftAt (PlaceOf (now (list .entry)) k) (now (shift .entry)) (now («step_z» .entry)) (now («step_s» .entry)) «sigma_mu»
-        (now (w .entry)) (now (eta .entry)) ⌝ }
+    ensures { λ r. ⌜ tells (ofAnswer r) (now (shift .exit) ⨾ now («step_z» .exit) ⨾ now («step_s» .exit) ⨾ tt)
+        ≡ At (PlaceOf (now (list .entry)) k) (CombinedDsShiftDeed «sigma_mu») (now (shift .entry)) (now («step_z» .entry)) (now («step_s» .entry)) (now (w .entry)) (now (eta .entry)) ⌝ }
 {
     let p = conewalk::place_of(list, k);
     list_combined::combined_ds_shift_at(p, shift, step_z, step_s, sigma_mu, w, eta)

@@ -3,10 +3,11 @@ use mathlib.Core.Path.{_≡_}
 use mathlib.Core.List.{List}
 use lib.Ieee.{Float}
 use Rattle.answers.specs.declared.Answer.{Answer}
-use Rattle.answers.specs.Outcome.{Contents, told}
+use Rattle.answers.specs.Outcome.{tells, ofAnswer}
 use Rattle.answers.proofs.Unique.{one-answer}
 use Rattle.conelist.specs.declared.Place.{Place}
-use Rattle.list_identity.specs.Identity.{SetIdentityScalingAt}
+use Rattle.conecalls.specs.Deed.{Whole, Tuple, At}
+use Rattle.list_identity.specs.Identity.{SetIdentityScalingDeed}
 
-set-identity-scaling-at : (p : Place) {r r′ : Answer} {e e′ : Contents} (w u v η d : List Float) → told r e ≡ SetIdentityScalingAt p w u v η d → told r′ e′ ≡ SetIdentityScalingAt p w u v η d → (r ≡ r′) × (e ≡ e′)
+set-identity-scaling-at : (p : Place) {r r′ : Answer} (w u v η d : List Float) {e e′ : Tuple Whole (SetIdentityScalingDeed .writes)} → tells (ofAnswer r) e ≡ At p SetIdentityScalingDeed w u v η d → tells (ofAnswer r′) e′ ≡ At p SetIdentityScalingDeed w u v η d → (r ≡ r′) × (e ≡ e′)
 set-identity-scaling-at p w u v η d = one-answer

@@ -6,12 +6,11 @@ use conelist::Place;
 ghost use mathlib.Core.Path.{_≡_};
 ghost use mathlib.Core.List.{[], _∷_};
 ghost use lib.ListN.{length};
-ghost use Rattle.vecmath.specs.Double.{_!_};
 ghost use Rattle.answers.specs.Refusal.{Fit};
-ghost use Rattle.answers.specs.Outcome.{told};
-ghost use Rattle.conelist.specs.Layout.{LeastDim, Open, Of};
-ghost use Rattle.conecalls.specs.At.{entries, number, Backs};
-ghost use Rattle.list_identity.specs.Identity.{KindIdentity, SetIdentityScalingAt};
+ghost use Rattle.answers.specs.Outcome.{tells, ofAnswer, _⨾_};
+ghost use Rattle.conelist.specs.Layout.{LeastDim, Open};
+ghost use Rattle.conecalls.specs.Deed.{At, WorksAt};
+ghost use Rattle.list_identity.specs.Identity.{KindIdentity, SetIdentityScalingDeed};
 
 // A nonnegative cone uses no u, v, η, d: they stay.
 fn kind_identity(
@@ -23,7 +22,7 @@ fn kind_identity(
     d: &mut f64,
 )
     requires { ⌜ Fit (LeastDim kind) (length (now w)) (length (now u) ∷ length (now v) ∷ []) ⌝ }
-    ensures { λ _. ⌜ now (w .exit) ∷ now (u .exit) ∷ now (v .exit) ∷ (now (eta .exit) ∷ []) ∷ (now (d .exit) ∷ []) ∷ []
+    ensures { λ _. ⌜ now (w .exit) ⨾ now (u .exit) ⨾ now (v .exit) ⨾ now (eta .exit) ⨾ now (d .exit) ⨾ tt
         ≡ KindIdentity kind (now (w .entry)) (now (u .entry)) (now (v .entry)) (now (eta .entry)) (now (d .entry)) ⌝ }
 {
     match kind {
@@ -42,11 +41,8 @@ fn identity_in(
 )
     requires { ⌜ Open p ((length (now w), p .entries) ∷ (length (now u), p .entries) ∷ (length (now v), p .entries)
         ∷ (length (now eta), p .count) ∷ (length (now d), p .count) ∷ []) ⌝ }
-    ensures { λ _. ⌜ now (w .exit) ∷ now (u .exit) ∷ now (v .exit) ∷ now (eta .exit) ∷ now (d .exit) ∷ []
-        ≡ Backs p ((entries, now (w .entry)) ∷ (entries, now (u .entry)) ∷ (entries, now (v .entry)) ∷ (number, now (eta .entry))
-        ∷ (number, now (d .entry)) ∷ [])
-        (KindIdentity (p .kind) (Of p (now (w .entry))) (Of p (now (u .entry))) (Of p (now (v .entry))) (now (eta .entry) ! (p .index))
-        (now (d .entry) ! (p .index))) ⌝ }
+    ensures { λ _. ⌜ now (w .exit) ⨾ now (u .exit) ⨾ now (v .exit) ⨾ now (eta .exit) ⨾ now (d .exit) ⨾ tt
+        ≡ WorksAt p SetIdentityScalingDeed (now (w .entry)) (now (u .entry)) (now (v .entry)) (now (eta .entry)) (now (d .entry)) .news ⌝ }
 {
     let at = p.start;
     let kind = p.kind;
@@ -70,8 +66,8 @@ pub fn set_identity_scaling_at(
     eta: &mut [f64],
     d: &mut [f64],
 ) -> Answer
-    ensures { λ r. ⌜ told r (now (w .exit) ∷ now (u .exit) ∷ now (v .exit) ∷ now (eta .exit) ∷ now (d .exit) ∷ [])
-        ≡ SetIdentityScalingAt p (now (w .entry)) (now (u .entry)) (now (v .entry)) (now (eta .entry)) (now (d .entry)) ⌝ }
+    ensures { λ r. ⌜ tells (ofAnswer r) (now (w .exit) ⨾ now (u .exit) ⨾ now (v .exit) ⨾ now (eta .exit) ⨾ now (d .exit) ⨾ tt)
+        ≡ At p SetIdentityScalingDeed (now (w .entry)) (now (u .entry)) (now (v .entry)) (now (eta .entry)) (now (d .entry)) ⌝ }
 {
     let entries = p.entries;
     let count = p.count;

@@ -2,10 +2,10 @@
 use answers::Answer;
 use conelist::Cone;
 ghost use mathlib.Core.Path.{_≡_};
-ghost use mathlib.Core.List.{[], _∷_};
-ghost use Rattle.answers.specs.Outcome.{told};
+ghost use Rattle.answers.specs.Outcome.{tells, ofAnswer, _⨾_};
 ghost use Rattle.conelist.specs.Layout.{PlaceOf};
-ghost use Rattle.list_identity.specs.Identity.{SetIdentityScalingAt};
+ghost use Rattle.conecalls.specs.Deed.{At};
+ghost use Rattle.list_identity.specs.Identity.{SetIdentityScalingDeed};
 
 pub fn set_identity_scaling(
     list: &[Cone],
@@ -16,9 +16,8 @@ pub fn set_identity_scaling(
     eta: &mut [f64],
     d: &mut [f64],
 ) -> Answer
-    ensures { λ r. ⌜ told r (now (w .exit) ∷ now (u .exit) ∷ now (v .exit) ∷ now (eta .exit) ∷ now (d .exit) ∷ [])
-        ≡ SetIdentityScalingAt (PlaceOf (now (list .entry)) k) (now (w .entry)) (now (u .entry)) (now (v .entry)) (now (eta .entry))
-        (now (d .entry)) ⌝ }
+    ensures { λ r. ⌜ tells (ofAnswer r) (now (w .exit) ⨾ now (u .exit) ⨾ now (v .exit) ⨾ now (eta .exit) ⨾ now (d .exit) ⨾ tt)
+        ≡ At (PlaceOf (now (list .entry)) k) SetIdentityScalingDeed (now (w .entry)) (now (u .entry)) (now (v .entry)) (now (eta .entry)) (now (d .entry)) ⌝ }
 {
     let p = conewalk::place_of(list, k);
     list_identity::set_identity_scaling_at(p, w, u, v, eta, d)

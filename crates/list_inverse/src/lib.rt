@@ -8,9 +8,10 @@ ghost use mathlib.Core.Path.{_≡_};
 ghost use mathlib.Core.List.{[], _∷_};
 ghost use lib.ListN.{length};
 ghost use Rattle.answers.specs.Refusal.{Fit};
-ghost use Rattle.answers.specs.Outcome.{told};
+ghost use Rattle.answers.specs.Outcome.{tells, ofAnswer, _⨾_};
 ghost use Rattle.conelist.specs.Layout.{LeastDim, Open, Of, With};
-ghost use Rattle.list_inverse.specs.Inverse.{KindInvCirc, InvCircOpAt, LambdaInvCircOpAt};
+ghost use Rattle.conecalls.specs.Deed.{At};
+ghost use Rattle.list_inverse.specs.Inverse.{KindInvCirc, InvCircOpDeed, LambdaInvCircOpDeed};
 
 fn kind_inv_circ(kind: Kind, x: &mut [f64], y: &[f64], z: &[f64])
     requires { ⌜ Fit (LeastDim kind) (length (now x)) (length (now y) ∷ length (now z) ∷ []) ⌝ }
@@ -34,7 +35,7 @@ fn inv_circ_op_in(p: Place, x: &mut [f64], y: &[f64], z: &[f64])
 
 // x = y \ z
 pub fn inv_circ_op_at(p: Place, x: &mut [f64], y: &[f64], z: &[f64]) -> Answer
-    ensures { λ r. ⌜ told r (now (x .exit) ∷ []) ≡ InvCircOpAt p (now (x .entry)) (now (y .entry)) (now (z .entry)) ⌝ }
+    ensures { λ r. ⌜ tells (ofAnswer r) (now (x .exit) ⨾ tt) ≡ At p InvCircOpDeed (now (x .entry)) (now (y .entry)) (now (z .entry)) ⌝ }
 {
     let entries = p.entries;
     let same = (x.len() == entries) & (y.len() == entries) & (z.len() == entries);
@@ -48,7 +49,7 @@ pub fn inv_circ_op_at(p: Place, x: &mut [f64], y: &[f64], z: &[f64]) -> Answer
 
 // x = lambda \ z
 pub fn lambda_inv_circ_op_at(p: Place, x: &mut [f64], z: &[f64], lambda: &[f64]) -> Answer
-    ensures { λ r. ⌜ told r (now (x .exit) ∷ []) ≡ LambdaInvCircOpAt p (now (x .entry)) (now (z .entry)) (now (lambda .entry)) ⌝ }
+    ensures { λ r. ⌜ tells (ofAnswer r) (now (x .exit) ⨾ tt) ≡ At p LambdaInvCircOpDeed (now (x .entry)) (now (z .entry)) (now (lambda .entry)) ⌝ }
 {
     let entries = p.entries;
     let same = (x.len() == entries) & (z.len() == entries) & (lambda.len() == entries);

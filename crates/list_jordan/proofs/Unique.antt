@@ -3,14 +3,15 @@ use mathlib.Core.Path.{_≡_}
 use mathlib.Core.List.{List}
 use lib.Ieee.{Float}
 use Rattle.answers.specs.declared.Answer.{Answer}
-use Rattle.answers.specs.Outcome.{Contents, told}
+use Rattle.answers.specs.Outcome.{tells, ofAnswer}
 use Rattle.answers.proofs.Unique.{one-answer}
 use Rattle.conelist.specs.declared.Place.{Place}
-use Rattle.list_jordan.specs.Jordan.{CircOpAt, AffineDsAt}
+use Rattle.conecalls.specs.Deed.{Whole, Tuple, At}
+use Rattle.list_jordan.specs.Jordan.{CircOpDeed, AffineDsDeed}
 
-module _ (p : Place) {r r′ : Answer} {e e′ : Contents} where
-  pub circ-op-at : (x y z : List Float) → told r e ≡ CircOpAt p x y z → told r′ e′ ≡ CircOpAt p x y z → (r ≡ r′) × (e ≡ e′)
+module _ (p : Place) {r r′ : Answer} where
+  pub circ-op-at : (x y z : List Float) {e e′ : Tuple Whole (CircOpDeed .writes)} → tells (ofAnswer r) e ≡ At p CircOpDeed x y z → tells (ofAnswer r′) e′ ≡ At p CircOpDeed x y z → (r ≡ r′) × (e ≡ e′)
   circ-op-at x y z = one-answer
 
-  pub affine-ds-at : (ds lambda : List Float) → told r e ≡ AffineDsAt p ds lambda → told r′ e′ ≡ AffineDsAt p ds lambda → (r ≡ r′) × (e ≡ e′)
+  pub affine-ds-at : (ds lambda : List Float) {e e′ : Tuple Whole (AffineDsDeed .writes)} → tells (ofAnswer r) e ≡ At p AffineDsDeed ds lambda → tells (ofAnswer r′) e′ ≡ At p AffineDsDeed ds lambda → (r ≡ r′) × (e ≡ e′)
   affine-ds-at ds lambda = one-answer

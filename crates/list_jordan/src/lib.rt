@@ -8,9 +8,10 @@ ghost use mathlib.Core.Path.{_≡_};
 ghost use mathlib.Core.List.{[], _∷_};
 ghost use lib.ListN.{length};
 ghost use Rattle.answers.specs.Refusal.{Fit};
-ghost use Rattle.answers.specs.Outcome.{told};
+ghost use Rattle.answers.specs.Outcome.{tells, ofAnswer, _⨾_};
 ghost use Rattle.conelist.specs.Layout.{LeastDim, Open, Of, With};
-ghost use Rattle.list_jordan.specs.Jordan.{KindCirc, KindAffineDs, CircOpAt, AffineDsAt};
+ghost use Rattle.conecalls.specs.Deed.{At};
+ghost use Rattle.list_jordan.specs.Jordan.{KindCirc, KindAffineDs, CircOpDeed, AffineDsDeed};
 
 // ---- the product
 
@@ -36,7 +37,7 @@ fn circ_op_in(p: Place, x: &mut [f64], y: &[f64], z: &[f64])
 
 // x = y ∘ z
 pub fn circ_op_at(p: Place, x: &mut [f64], y: &[f64], z: &[f64]) -> Answer
-    ensures { λ r. ⌜ told r (now (x .exit) ∷ []) ≡ CircOpAt p (now (x .entry)) (now (y .entry)) (now (z .entry)) ⌝ }
+    ensures { λ r. ⌜ tells (ofAnswer r) (now (x .exit) ⨾ tt) ≡ At p CircOpDeed (now (x .entry)) (now (y .entry)) (now (z .entry)) ⌝ }
 {
     let entries = p.entries;
     let same = (x.len() == entries) & (y.len() == entries) & (z.len() == entries);
@@ -72,7 +73,7 @@ fn affine_ds_in(p: Place, ds: &mut [f64], lambda: &[f64])
 
 // ds = lambda ∘ lambda
 pub fn affine_ds_at(p: Place, ds: &mut [f64], lambda: &[f64]) -> Answer
-    ensures { λ r. ⌜ told r (now (ds .exit) ∷ []) ≡ AffineDsAt p (now (ds .entry)) (now (lambda .entry)) ⌝ }
+    ensures { λ r. ⌜ tells (ofAnswer r) (now (ds .exit) ⨾ tt) ≡ At p AffineDsDeed (now (ds .entry)) (now (lambda .entry)) ⌝ }
 {
     let entries = p.entries;
     let no = conelist::refusal(p, (ds.len() == entries) & (lambda.len() == entries));

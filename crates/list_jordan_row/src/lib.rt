@@ -2,20 +2,20 @@
 use answers::Answer;
 use conelist::Cone;
 ghost use mathlib.Core.Path.{_≡_};
-ghost use mathlib.Core.List.{[], _∷_};
-ghost use Rattle.answers.specs.Outcome.{told};
+ghost use Rattle.answers.specs.Outcome.{tells, ofAnswer, _⨾_};
 ghost use Rattle.conelist.specs.Layout.{PlaceOf};
-ghost use Rattle.list_jordan.specs.Jordan.{CircOpAt, AffineDsAt};
+ghost use Rattle.conecalls.specs.Deed.{At};
+ghost use Rattle.list_jordan.specs.Jordan.{CircOpDeed, AffineDsDeed};
 
 pub fn circ_op(list: &[Cone], k: usize, x: &mut [f64], y: &[f64], z: &[f64]) -> Answer
-    ensures { λ r. ⌜ told r (now (x .exit) ∷ []) ≡ CircOpAt (PlaceOf (now (list .entry)) k) (now (x .entry)) (now (y .entry)) (now (z .entry)) ⌝ }
+    ensures { λ r. ⌜ tells (ofAnswer r) (now (x .exit) ⨾ tt) ≡ At (PlaceOf (now (list .entry)) k) CircOpDeed (now (x .entry)) (now (y .entry)) (now (z .entry)) ⌝ }
 {
     let p = conewalk::place_of(list, k);
     list_jordan::circ_op_at(p, x, y, z)
 }
 
 pub fn affine_ds(list: &[Cone], k: usize, ds: &mut [f64], lambda: &[f64]) -> Answer
-    ensures { λ r. ⌜ told r (now (ds .exit) ∷ []) ≡ AffineDsAt (PlaceOf (now (list .entry)) k) (now (ds .entry)) (now (lambda .entry)) ⌝ }
+    ensures { λ r. ⌜ tells (ofAnswer r) (now (ds .exit) ⨾ tt) ≡ At (PlaceOf (now (list .entry)) k) AffineDsDeed (now (ds .entry)) (now (lambda .entry)) ⌝ }
 {
     let p = conewalk::place_of(list, k);
     list_jordan::affine_ds_at(p, ds, lambda)

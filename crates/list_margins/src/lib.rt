@@ -7,9 +7,10 @@ ghost use mathlib.Core.Path.{_≡_};
 ghost use mathlib.Core.List.{[], _∷_};
 ghost use lib.ListN.{length};
 ghost use Rattle.answers.specs.Refusal.{Fit};
-ghost use Rattle.answers.specs.Outcome.{gives, ofMargins, toldMargins};
+ghost use Rattle.answers.specs.Outcome.{gives, ofMargins, tells};
 ghost use Rattle.conelist.specs.Layout.{LeastDim, Open, Of};
-ghost use Rattle.list_margins.specs.Margins.{KindMargins, MarginsAt};
+ghost use Rattle.conecalls.specs.Deed.{At};
+ghost use Rattle.list_margins.specs.Margins.{KindMargins, MarginsDeed};
 
 fn kind_margins(kind: Kind, z: &[f64]) -> Margins
     requires { ⌜ Fit (LeastDim kind) (length (now z)) [] ⌝ }
@@ -35,7 +36,7 @@ fn margins_in(p: Place, z: &[f64]) -> Margins
 }
 
 pub fn margins_at(p: Place, z: &[f64]) -> Margins
-    ensures { λ r. ⌜ toldMargins r ≡ MarginsAt p (now (z .entry)) ⌝ }
+    ensures { λ r. ⌜ tells (ofMargins r) tt ≡ At p MarginsDeed (now (z .entry)) ⌝ }
 {
     let entries = p.entries;
     let no = conelist::refusal(p, z.len() == entries);

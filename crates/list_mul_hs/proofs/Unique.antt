@@ -3,10 +3,11 @@ use mathlib.Core.Path.{_≡_}
 use mathlib.Core.List.{List}
 use lib.Ieee.{Float}
 use Rattle.answers.specs.declared.Answer.{Answer}
-use Rattle.answers.specs.Outcome.{Contents, told}
+use Rattle.answers.specs.Outcome.{tells, ofAnswer}
 use Rattle.answers.proofs.Unique.{one-answer}
 use Rattle.conelist.specs.declared.Place.{Place}
-use Rattle.list_mul_hs.specs.Block.{MulHsAt}
+use Rattle.conecalls.specs.Deed.{Whole, Tuple, At}
+use Rattle.list_mul_hs.specs.Block.{MulHsDeed}
 
-pub mul-hs-at : (p : Place) {r r′ : Answer} {e e′ : Contents} (y x w η : List Float) → told r e ≡ MulHsAt p y x w η → told r′ e′ ≡ MulHsAt p y x w η → (r ≡ r′) × (e ≡ e′)
+pub mul-hs-at : (p : Place) {r r′ : Answer} (y x w η : List Float) {e e′ : Tuple Whole (MulHsDeed .writes)} → tells (ofAnswer r) e ≡ At p MulHsDeed y x w η → tells (ofAnswer r′) e′ ≡ At p MulHsDeed y x w η → (r ≡ r′) × (e ≡ e′)
 mul-hs-at p y x w η = one-answer

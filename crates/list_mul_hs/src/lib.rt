@@ -8,9 +8,10 @@ ghost use mathlib.Core.List.{[], _∷_};
 ghost use lib.ListN.{length};
 ghost use Rattle.vecmath.specs.Double.{_!_};
 ghost use Rattle.answers.specs.Refusal.{Fit};
-ghost use Rattle.answers.specs.Outcome.{told};
+ghost use Rattle.answers.specs.Outcome.{tells, ofAnswer, _⨾_};
 ghost use Rattle.conelist.specs.Layout.{LeastDim, Open, Of, With};
-ghost use Rattle.list_mul_hs.specs.Block.{KindMulHs, MulHsAt};
+ghost use Rattle.conecalls.specs.Deed.{At};
+ghost use Rattle.list_mul_hs.specs.Block.{KindMulHs, MulHsDeed};
 
 fn kind_mul_hs(kind: Kind, y: &mut [f64], x: &[f64], w: &[f64], eta: f64)
     requires { ⌜ Fit (LeastDim kind) (length (now y)) (length (now x) ∷ length (now w) ∷ []) ⌝ }
@@ -36,7 +37,7 @@ fn mul_hs_in(p: Place, y: &mut [f64], x: &[f64], w: &[f64], eta: &[f64])
 
 // y = Hs·x
 pub fn mul_hs_at(p: Place, y: &mut [f64], x: &[f64], w: &[f64], eta: &[f64]) -> Answer
-    ensures { λ r. ⌜ told r (now (y .exit) ∷ []) ≡ MulHsAt p (now (y .entry)) (now (x .entry)) (now (w .entry)) (now (eta .entry)) ⌝ }
+    ensures { λ r. ⌜ tells (ofAnswer r) (now (y .exit) ⨾ tt) ≡ At p MulHsDeed (now (y .entry)) (now (x .entry)) (now (w .entry)) (now (eta .entry)) ⌝ }
 {
     let entries = p.entries;
     let count = p.count;

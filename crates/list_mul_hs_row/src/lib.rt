@@ -2,14 +2,14 @@
 use answers::Answer;
 use conelist::Cone;
 ghost use mathlib.Core.Path.{_≡_};
-ghost use mathlib.Core.List.{[], _∷_};
-ghost use Rattle.answers.specs.Outcome.{told};
+ghost use Rattle.answers.specs.Outcome.{tells, ofAnswer, _⨾_};
 ghost use Rattle.conelist.specs.Layout.{PlaceOf};
-ghost use Rattle.list_mul_hs.specs.Block.{MulHsAt};
+ghost use Rattle.conecalls.specs.Deed.{At};
+ghost use Rattle.list_mul_hs.specs.Block.{MulHsDeed};
 
 pub fn mul_hs(list: &[Cone], k: usize, y: &mut [f64], x: &[f64], w: &[f64], eta: &[f64]) -> Answer
-    ensures { λ r. ⌜ told r (now (y .exit) ∷ [])
-        ≡ MulHsAt (PlaceOf (now (list .entry)) k) (now (y .entry)) (now (x .entry)) (now (w .entry)) (now (eta .entry)) ⌝ }
+    ensures { λ r. ⌜ tells (ofAnswer r) (now (y .exit) ⨾ tt)
+        ≡ At (PlaceOf (now (list .entry)) k) MulHsDeed (now (y .entry)) (now (x .entry)) (now (w .entry)) (now (eta .entry)) ⌝ }
 {
     let p = conewalk::place_of(list, k);
     list_mul_hs::mul_hs_at(p, y, x, w, eta)

@@ -8,9 +8,10 @@ ghost use mathlib.Core.List.{[], _∷_};
 ghost use lib.ListN.{length};
 ghost use Rattle.vecmath.specs.Double.{_!_};
 ghost use Rattle.answers.specs.Refusal.{Fit};
-ghost use Rattle.answers.specs.Outcome.{told};
+ghost use Rattle.answers.specs.Outcome.{tells, ofAnswer, _⨾_};
 ghost use Rattle.conelist.specs.Layout.{LeastDim, Open, Of, With};
-ghost use Rattle.list_mul_winv.specs.Product.{KindMulWinv, MulWinvAt};
+ghost use Rattle.conecalls.specs.Deed.{At};
+ghost use Rattle.list_mul_winv.specs.Product.{KindMulWinv, MulWinvDeed};
 
 fn kind_mul_winv(kind: Kind, y: &mut [f64], x: &[f64], alpha: f64, beta: f64, w: &[f64], eta: f64)
     requires { ⌜ Fit (LeastDim kind) (length (now y)) (length (now x) ∷ length (now w) ∷ []) ⌝ }
@@ -52,8 +53,8 @@ pub fn mul_winv_at(
     w: &[f64],
     eta: &[f64],
 ) -> Answer
-    ensures { λ r. ⌜ told r (now (y .exit) ∷ [])
-        ≡ MulWinvAt p (now (y .entry)) (now (x .entry)) alpha beta (now (w .entry)) (now (eta .entry)) ⌝ }
+    ensures { λ r. ⌜ tells (ofAnswer r) (now (y .exit) ⨾ tt)
+        ≡ At p (MulWinvDeed alpha beta) (now (y .entry)) (now (x .entry)) (now (w .entry)) (now (eta .entry)) ⌝ }
 {
     let no = list_products::refusal(p, y.len(), x.len(), w.len(), eta.len());
     if no != 0 {

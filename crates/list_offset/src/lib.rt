@@ -8,9 +8,10 @@ ghost use mathlib.Core.List.{[], _∷_};
 ghost use lib.ListN.{length};
 ghost use Rattle.vecmath.specs.Double.{_!_};
 ghost use Rattle.answers.specs.Refusal.{Fit};
-ghost use Rattle.answers.specs.Outcome.{told};
+ghost use Rattle.answers.specs.Outcome.{tells, ofAnswer, _⨾_};
 ghost use Rattle.conelist.specs.Layout.{LeastDim, Open, Of, With};
-ghost use Rattle.list_offset.specs.Offset.{KindOffset, DsFromDzOffsetAt};
+ghost use Rattle.conecalls.specs.Deed.{At};
+ghost use Rattle.list_offset.specs.Offset.{KindOffset, DsFromDzOffsetDeed};
 
 fn kind_offset(
     kind: Kind,
@@ -69,7 +70,7 @@ pub fn ds_from_dz_offset_at(
     lambda: &[f64],
     eta: &[f64],
 ) -> Answer
-    ensures { λ r. ⌜ told r (now (out .exit) ∷ []) ≡ DsFromDzOffsetAt p (now (out .entry)) (now (ds .entry)) (now (z .entry))
+    ensures { λ r. ⌜ tells (ofAnswer r) (now (out .exit) ⨾ tt) ≡ At p DsFromDzOffsetDeed (now (out .entry)) (now (ds .entry)) (now (z .entry))
         (now (w .entry)) (now (lambda .entry)) (now (eta .entry)) ⌝ }
 {
     let entries = p.entries;

@@ -2,10 +2,10 @@
 use answers::Answer;
 use conelist::Cone;
 ghost use mathlib.Core.Path.{_≡_};
-ghost use mathlib.Core.List.{[], _∷_};
-ghost use Rattle.answers.specs.Outcome.{told};
+ghost use Rattle.answers.specs.Outcome.{tells, ofAnswer, _⨾_};
 ghost use Rattle.conelist.specs.Layout.{PlaceOf};
-ghost use Rattle.list_offset.specs.Offset.{DsFromDzOffsetAt};
+ghost use Rattle.conecalls.specs.Deed.{At};
+ghost use Rattle.list_offset.specs.Offset.{DsFromDzOffsetDeed};
 
 pub fn ds_from_dz_offset(
     list: &[Cone],
@@ -17,8 +17,7 @@ pub fn ds_from_dz_offset(
     lambda: &[f64],
     eta: &[f64],
 ) -> Answer
-    ensures { λ r. ⌜ told r (now (out .exit) ∷ []) ≡ DsFromDzOffsetAt (PlaceOf (now (list .entry)) k) (now (out .entry)) (now (ds .entry)) (now (z .entry))
-        (now (w .entry)) (now (lambda .entry)) (now (eta .entry)) ⌝ }
+    ensures { λ r. ⌜ tells (ofAnswer r) (now (out .exit) ⨾ tt) ≡ At (PlaceOf (now (list .entry)) k) DsFromDzOffsetDeed (now (out .entry)) (now (ds .entry)) (now (z .entry)) (now (w .entry)) (now (lambda .entry)) (now (eta .entry)) ⌝ }
 {
     let p = conewalk::place_of(list, k);
     list_offset::ds_from_dz_offset_at(p, out, ds, z, w, lambda, eta)

@@ -8,9 +8,10 @@ ghost use mathlib.Core.List.{[], _∷_};
 ghost use lib.ListN.{length};
 ghost use Rattle.vecmath.specs.Double.{_!_};
 ghost use Rattle.answers.specs.Refusal.{Fit};
-ghost use Rattle.answers.specs.Outcome.{told};
+ghost use Rattle.answers.specs.Outcome.{tells, ofAnswer, _⨾_};
 ghost use Rattle.conelist.specs.Layout.{LeastDim, RefusalAt, Open, Of, With};
-ghost use Rattle.list_products.specs.Product.{KindMulW, MulWAt};
+ghost use Rattle.conecalls.specs.Deed.{At};
+ghost use Rattle.list_products.specs.Product.{KindMulW, MulWDeed};
 
 // The refusals of either: both are lent y, x and w, a number per entry, and eta, a number per cone.
 pub fn refusal(p: Place, y: usize, x: usize, w: usize, eta: usize) -> u8
@@ -64,8 +65,8 @@ pub fn mul_w_at(
     w: &[f64],
     eta: &[f64],
 ) -> Answer
-    ensures { λ r. ⌜ told r (now (y .exit) ∷ [])
-        ≡ MulWAt p (now (y .entry)) (now (x .entry)) alpha beta (now (w .entry)) (now (eta .entry)) ⌝ }
+    ensures { λ r. ⌜ tells (ofAnswer r) (now (y .exit) ⨾ tt)
+        ≡ At p (MulWDeed alpha beta) (now (y .entry)) (now (x .entry)) (now (w .entry)) (now (eta .entry)) ⌝ }
 {
     let no = refusal(p, y.len(), x.len(), w.len(), eta.len());
     if no != 0 {

@@ -2,11 +2,11 @@
 use answers::Answer;
 use conelist::Cone;
 ghost use mathlib.Core.Path.{_≡_};
-ghost use mathlib.Core.List.{[], _∷_};
-ghost use Rattle.answers.specs.Outcome.{told};
+ghost use Rattle.answers.specs.Outcome.{tells, ofAnswer, _⨾_};
 ghost use Rattle.conelist.specs.Layout.{PlaceOf};
-ghost use Rattle.list_products.specs.Product.{MulWAt};
-ghost use Rattle.list_mul_winv.specs.Product.{MulWinvAt};
+ghost use Rattle.conecalls.specs.Deed.{At};
+ghost use Rattle.list_products.specs.Product.{MulWDeed};
+ghost use Rattle.list_mul_winv.specs.Product.{MulWinvDeed};
 
 pub fn mul_w(
     list: &[Cone],
@@ -18,8 +18,8 @@ pub fn mul_w(
     w: &[f64],
     eta: &[f64],
 ) -> Answer
-    ensures { λ r. ⌜ told r (now (y .exit) ∷ [])
-        ≡ MulWAt (PlaceOf (now (list .entry)) k) (now (y .entry)) (now (x .entry)) alpha beta (now (w .entry)) (now (eta .entry)) ⌝ }
+    ensures { λ r. ⌜ tells (ofAnswer r) (now (y .exit) ⨾ tt)
+        ≡ At (PlaceOf (now (list .entry)) k) (MulWDeed alpha beta) (now (y .entry)) (now (x .entry)) (now (w .entry)) (now (eta .entry)) ⌝ }
 {
     let p = conewalk::place_of(list, k);
     list_products::mul_w_at(p, y, x, alpha, beta, w, eta)
@@ -35,8 +35,8 @@ pub fn mul_winv(
     w: &[f64],
     eta: &[f64],
 ) -> Answer
-    ensures { λ r. ⌜ told r (now (y .exit) ∷ [])
-        ≡ MulWinvAt (PlaceOf (now (list .entry)) k) (now (y .entry)) (now (x .entry)) alpha beta (now (w .entry)) (now (eta .entry)) ⌝ }
+    ensures { λ r. ⌜ tells (ofAnswer r) (now (y .exit) ⨾ tt)
+        ≡ At (PlaceOf (now (list .entry)) k) (MulWinvDeed alpha beta) (now (y .entry)) (now (x .entry)) (now (w .entry)) (now (eta .entry)) ⌝ }
 {
     let p = conewalk::place_of(list, k);
     list_mul_winv::mul_winv_at(p, y, x, alpha, beta, w, eta)

@@ -3,10 +3,11 @@ use mathlib.Core.Path.{_≡_}
 use mathlib.Core.List.{List}
 use lib.Ieee.{Float}
 use Rattle.answers.specs.declared.Scaling.{Scaling}
-use Rattle.answers.specs.Outcome.{Contents, toldScaling}
+use Rattle.answers.specs.Outcome.{tells, ofScaling}
 use Rattle.answers.proofs.Unique.{one-scaling}
 use Rattle.conelist.specs.declared.Place.{Place}
-use Rattle.list_scaling.specs.Scaling.{UpdateScalingAt}
+use Rattle.conecalls.specs.Deed.{Whole, Tuple, At}
+use Rattle.list_scaling.specs.Scaling.{UpdateScalingDeed}
 
-update-scaling-at : (p : Place) {r r′ : Scaling} {e e′ : Contents} (s z w lambda u v η d : List Float) → toldScaling r e ≡ UpdateScalingAt p s z w lambda u v η d → toldScaling r′ e′ ≡ UpdateScalingAt p s z w lambda u v η d → (r ≡ r′) × (e ≡ e′)
-update-scaling-at p s z w lambda u v η d = one-scaling
+update-scaling-at : (p : Place) {r r′ : Scaling} (w lambda u v η d s z : List Float) {e e′ : Tuple Whole (UpdateScalingDeed .writes)} → tells (ofScaling r) e ≡ At p UpdateScalingDeed w lambda u v η d s z → tells (ofScaling r′) e′ ≡ At p UpdateScalingDeed w lambda u v η d s z → (r ≡ r′) × (e ≡ e′)
+update-scaling-at p w lambda u v η d s z = one-scaling

@@ -6,13 +6,12 @@ use conelist::Place;
 ghost use mathlib.Core.Path.{_≡_};
 ghost use mathlib.Core.List.{[], _∷_};
 ghost use lib.ListN.{length};
-ghost use Rattle.vecmath.specs.Double.{_!_};
 ghost use Rattle.answers.specs.Refusal.{Fit};
-ghost use Rattle.answers.specs.Outcome.{truth, toldScaling};
+ghost use Rattle.answers.specs.Outcome.{truth, tells, ofScaling, _⨾_};
 ghost use Rattle.soc_scaling.specs.Scaling.{Stored};
-ghost use Rattle.conelist.specs.Layout.{LeastDim, Open, Of};
-ghost use Rattle.conecalls.specs.At.{entries, number, DoesAt};
-ghost use Rattle.list_scaling.specs.Scaling.{KindScaling, UpdateScalingAt};
+ghost use Rattle.conelist.specs.Layout.{LeastDim, Open};
+ghost use Rattle.conecalls.specs.Deed.{At, WorksAt};
+ghost use Rattle.list_scaling.specs.Scaling.{KindScaling, UpdateScalingDeed};
 
 // A nonnegative cone uses no u, v, η, d: they stay.
 fn kind_scaling(
@@ -57,12 +56,10 @@ fn scaling_in(
         ∷ (length (now z), p .entries) ∷ []) ⌝ }
     ensures { λ r. ⌜ record {
       reply = truth r;
-      news = now (w .exit) ∷ now (lambda .exit) ∷ now (u .exit) ∷ now (v .exit) ∷ now (eta .exit) ∷ now (d .exit) ∷ [];
+      news = (now (w .exit) ⨾ now (lambda .exit) ⨾ now (u .exit) ⨾ now (v .exit) ⨾ now (eta .exit) ⨾ now (d .exit) ⨾ tt);
     }
-        ≡ DoesAt p ((entries, now (w .entry)) ∷ (entries, now (lambda .entry)) ∷ (entries, now (u .entry)) ∷ (entries, now (v .entry))
-        ∷ (number, now (eta .entry)) ∷ (number, now (d .entry)) ∷ [])
-        (KindScaling (p .kind) (Of p (now (s .entry))) (Of p (now (z .entry))) (Of p (now (w .entry))) (Of p (now (lambda .entry)))
-        (Of p (now (u .entry))) (Of p (now (v .entry))) (now (eta .entry) ! (p .index)) (now (d .entry) ! (p .index))) ⌝ }
+        ≡ WorksAt p UpdateScalingDeed (now (w .entry)) (now (lambda .entry)) (now (u .entry)) (now (v .entry)) (now (eta .entry)) (now (d .entry))
+        (now (s .entry)) (now (z .entry)) ⌝ }
 {
     let at = p.start;
     let kind = p.kind;
@@ -92,10 +89,10 @@ pub fn update_scaling_at(
     eta: &mut [f64],
     d: &mut [f64],
 ) -> Scaling
-    ensures { λ r. ⌜ toldScaling r
-        (now (w .exit) ∷ now (lambda .exit) ∷ now (u .exit) ∷ now (v .exit) ∷ now (eta .exit) ∷ now (d .exit) ∷ [])
-        ≡ UpdateScalingAt p (now (s .entry)) (now (z .entry)) (now (w .entry)) (now (lambda .entry)) (now (u .entry)) (now (v .entry))
-        (now (eta .entry)) (now (d .entry)) ⌝ }
+    ensures { λ r. ⌜ tells (ofScaling r)
+        (now (w .exit) ⨾ now (lambda .exit) ⨾ now (u .exit) ⨾ now (v .exit) ⨾ now (eta .exit) ⨾ now (d .exit) ⨾ tt)
+        ≡ At p UpdateScalingDeed (now (w .entry)) (now (lambda .entry)) (now (u .entry)) (now (v .entry)) (now (eta .entry)) (now (d .entry))
+        (now (s .entry)) (now (z .entry)) ⌝ }
 {
     let entries = p.entries;
     let count = p.count;
@@ -111,5 +108,5 @@ pub fn update_scaling_at(
     if no != 0 {
         return Scaling::Refused(no);
     }
-    Scaling::Told(scaling_in(p, s, z, w, lambda, u, v, eta, d))
+    Scaling::Truth(scaling_in(p, s, z, w, lambda, u, v, eta, d))
 }

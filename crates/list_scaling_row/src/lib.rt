@@ -2,10 +2,10 @@
 use answers::Scaling;
 use conelist::Cone;
 ghost use mathlib.Core.Path.{_≡_};
-ghost use mathlib.Core.List.{[], _∷_};
-ghost use Rattle.answers.specs.Outcome.{toldScaling};
+ghost use Rattle.answers.specs.Outcome.{tells, ofScaling, _⨾_};
 ghost use Rattle.conelist.specs.Layout.{PlaceOf};
-ghost use Rattle.list_scaling.specs.Scaling.{UpdateScalingAt};
+ghost use Rattle.conecalls.specs.Deed.{At};
+ghost use Rattle.list_scaling.specs.Scaling.{UpdateScalingDeed};
 
 pub fn update_scaling(
     list: &[Cone],
@@ -19,10 +19,9 @@ pub fn update_scaling(
     eta: &mut [f64],
     d: &mut [f64],
 ) -> Scaling
-    ensures { λ r. ⌜ toldScaling r
-        (now (w .exit) ∷ now (lambda .exit) ∷ now (u .exit) ∷ now (v .exit) ∷ now (eta .exit) ∷ now (d .exit) ∷ [])
-        ≡ UpdateScalingAt (PlaceOf (now (list .entry)) k) (now (s .entry)) (now (z .entry)) (now (w .entry)) (now (lambda .entry))
-        (now (u .entry)) (now (v .entry)) (now (eta .entry)) (now (d .entry)) ⌝ }
+    ensures { λ r. ⌜ tells (ofScaling r)
+        (now (w .exit) ⨾ now (lambda .exit) ⨾ now (u .exit) ⨾ now (v .exit) ⨾ now (eta .exit) ⨾ now (d .exit) ⨾ tt)
+        ≡ At (PlaceOf (now (list .entry)) k) UpdateScalingDeed (now (w .entry)) (now (lambda .entry)) (now (u .entry)) (now (v .entry)) (now (eta .entry)) (now (d .entry)) (now (s .entry)) (now (z .entry)) ⌝ }
 {
     let p = conewalk::place_of(list, k);
     list_scaling::update_scaling_at(p, s, z, w, lambda, u, v, eta, d)

@@ -3,11 +3,12 @@ use mathlib.Core.Path.{_≡_}
 use mathlib.Core.List.{List}
 use lib.Ieee.{Float}
 use Rattle.answers.specs.declared.Square.{Square}
-use Rattle.answers.specs.Outcome.{toldSquare}
+use Rattle.answers.specs.Outcome.{ofSquare, AsSquared}
 use Rattle.answers.proofs.Unique.{one-square}
 use Rattle.conelist.specs.declared.Place.{Place}
-use Rattle.list_square.specs.Square.{SquareHsAt}
+use Rattle.conecalls.specs.Deed.{At}
+use Rattle.list_square.specs.Square.{SquareHsDeed}
 
 module _ (p : Place) where
-  square-hs-at : {r r′ : Square} (w η : List Float) → toldSquare r ≡ SquareHsAt p w η → toldSquare r′ ≡ SquareHsAt p w η → r ≡ r′
+  square-hs-at : {r r′ : Square} (w η : List Float) → ofSquare r ≡ AsSquared (At p SquareHsDeed w η .ruling) → ofSquare r′ ≡ AsSquared (At p SquareHsDeed w η .ruling) → r ≡ r′
   square-hs-at w η = one-square

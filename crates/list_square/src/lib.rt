@@ -9,10 +9,11 @@ ghost use mathlib.Core.List.{[], _∷_, map};
 ghost use lib.ListN.{length};
 ghost use Rattle.vecmath.specs.Double.{_!_};
 ghost use Rattle.answers.specs.Refusal.{_⊳_, Unlike};
-ghost use Rattle.answers.specs.Outcome.{toldSquare};
+ghost use Rattle.answers.specs.Outcome.{ofSquare, AsSquared};
 ghost use Rattle.soc_square.specs.Square.{SquareHs};
 ghost use Rattle.conelist.specs.Layout.{Spot, Open, Of};
-ghost use Rattle.list_square.specs.Square.{KindNotDense, SquareHsAt};
+ghost use Rattle.conecalls.specs.Deed.{At};
+ghost use Rattle.list_square.specs.Square.{KindNotDense, SquareHsDeed};
 
 // 7: a nonnegative cone is never dense.
 fn dense_refusal(kind: Kind) -> u8
@@ -47,7 +48,7 @@ fn square_in(p: Place, w: &[f64], eta: &[f64]) -> [Row; 4]
 }
 
 pub fn square_hs_at(p: Place, w: &[f64], eta: &[f64]) -> Square
-    ensures { λ r. ⌜ toldSquare r ≡ SquareHsAt p (now (w .entry)) (now (eta .entry)) ⌝ }
+    ensures { λ r. ⌜ ofSquare r ≡ AsSquared (At p SquareHsDeed (now (w .entry)) (now (eta .entry)) .ruling) ⌝ }
 {
     let entries = p.entries;
     let count = p.count;

@@ -8,9 +8,10 @@ ghost use mathlib.Core.Path.{_≡_};
 ghost use mathlib.Core.List.{[], _∷_};
 ghost use lib.ListN.{length};
 ghost use Rattle.answers.specs.Refusal.{Fit};
-ghost use Rattle.answers.specs.Outcome.{toldStands};
+ghost use Rattle.answers.specs.Outcome.{ofStands, tells};
 ghost use Rattle.conelist.specs.Layout.{LeastDim, Open, Of};
-ghost use Rattle.list_standing.specs.Standing.{KindStanding, StandingAt};
+ghost use Rattle.conecalls.specs.Deed.{At};
+ghost use Rattle.list_standing.specs.Standing.{KindStanding, StandingDeed};
 
 fn kind_standing(kind: Kind, z: &[f64]) -> Standing
     requires { ⌜ Fit (LeastDim kind) (length (now z)) [] ⌝ }
@@ -33,7 +34,7 @@ fn standing_in(p: Place, z: &[f64]) -> Standing
 }
 
 pub fn standing_at(p: Place, z: &[f64]) -> Stands
-    ensures { λ r. ⌜ toldStands r ≡ StandingAt p (now (z .entry)) ⌝ }
+    ensures { λ r. ⌜ tells (ofStands r) tt ≡ At p StandingDeed (now (z .entry)) ⌝ }
 {
     let entries = p.entries;
     let no = conelist::refusal(p, z.len() == entries);

@@ -2,12 +2,13 @@
 use answers::Stands;
 use conelist::Cone;
 ghost use mathlib.Core.Path.{_≡_};
-ghost use Rattle.answers.specs.Outcome.{toldStands};
+ghost use Rattle.answers.specs.Outcome.{ofStands, tells};
 ghost use Rattle.conelist.specs.Layout.{PlaceOf};
-ghost use Rattle.list_standing.specs.Standing.{StandingAt};
+ghost use Rattle.conecalls.specs.Deed.{At};
+ghost use Rattle.list_standing.specs.Standing.{StandingDeed};
 
 pub fn standing(list: &[Cone], k: usize, z: &[f64]) -> Stands
-    ensures { λ r. ⌜ toldStands r ≡ StandingAt (PlaceOf (now (list .entry)) k) (now (z .entry)) ⌝ }
+    ensures { λ r. ⌜ tells (ofStands r) tt ≡ At (PlaceOf (now (list .entry)) k) StandingDeed (now (z .entry)) ⌝ }
 {
     let p = conewalk::place_of(list, k);
     list_standing::standing_at(p, z)

@@ -8,9 +8,10 @@ ghost use mathlib.Core.Path.{_≡_};
 ghost use mathlib.Core.List.{[], _∷_};
 ghost use lib.ListN.{length};
 ghost use Rattle.answers.specs.Refusal.{_⊳_, Unlike, BadLimit, Fit};
-ghost use Rattle.answers.specs.Outcome.{lengths, toldSteps};
+ghost use Rattle.answers.specs.Outcome.{lengths, ofSteps, tells};
 ghost use Rattle.conelist.specs.Layout.{LeastDim, Spot, Open, Of};
-ghost use Rattle.list_step.specs.Step.{KindStep, StepLengthAt};
+ghost use Rattle.conecalls.specs.Deed.{At};
+ghost use Rattle.list_step.specs.Step.{KindStep, StepLengthDeed};
 
 pub fn kind_step_length(
     kind: Kind,
@@ -22,7 +23,7 @@ pub fn kind_step_length(
 ) -> StepPair
     requires { ⌜ Fit (LeastDim kind) (length (now dz)) (length (now ds) ∷ length (now z) ∷ length (now s) ∷ []) ⌝ }
     ensures { λ r. ⌜ lengths (r .z) (r .s)
-        ≡ lengths (KindStep kind (now (dz .entry)) (now (z .entry)) limit) (KindStep kind (now (ds .entry)) (now (s .entry)) limit) ⌝ }
+        ≡ lengths (KindStep kind (now (z .entry)) (now (dz .entry)) limit) (KindStep kind (now (s .entry)) (now (ds .entry)) limit) ⌝ }
 {
     match kind {
         Kind::Nonnegative(n) => nn_step::step_length(dz, ds, z, s, limit),
@@ -33,7 +34,7 @@ pub fn kind_step_length(
 fn step_length_in(p: Place, dz: &[f64], ds: &[f64], z: &[f64], s: &[f64], limit: f64) -> StepPair
     requires { ⌜ Open p ((length (now dz), p .entries) ∷ (length (now ds), p .entries) ∷ (length (now z), p .entries) ∷ (length (now s), p .entries) ∷ []) ⌝ }
     ensures { λ r. ⌜ lengths (r .z) (r .s)
-        ≡ lengths (KindStep (p .kind) (Of p (now (dz .entry))) (Of p (now (z .entry))) limit) (KindStep (p .kind) (Of p (now (ds .entry))) (Of p (now (s .entry))) limit) ⌝ }
+        ≡ lengths (KindStep (p .kind) (Of p (now (z .entry))) (Of p (now (dz .entry))) limit) (KindStep (p .kind) (Of p (now (s .entry))) (Of p (now (ds .entry))) limit) ⌝ }
 {
     let at = p.start;
     let kind = p.kind;
@@ -56,7 +57,7 @@ fn step_refusal(p: Place, same: bool, limit: f64) -> u8
 }
 
 pub fn step_length_at(p: Place, dz: &[f64], ds: &[f64], z: &[f64], s: &[f64], limit: f64) -> Steps
-    ensures { λ r. ⌜ toldSteps r ≡ StepLengthAt p (now (dz .entry)) (now (ds .entry)) (now (z .entry)) (now (s .entry)) limit ⌝ }
+    ensures { λ r. ⌜ tells (ofSteps r) tt ≡ At p (StepLengthDeed limit) (now (dz .entry)) (now (ds .entry)) (now (z .entry)) (now (s .entry)) ⌝ }
 {
     let entries = p.entries;
     let same = (dz.len() == entries)

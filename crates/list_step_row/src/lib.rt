@@ -2,9 +2,10 @@
 use answers::Steps;
 use conelist::Cone;
 ghost use mathlib.Core.Path.{_≡_};
-ghost use Rattle.answers.specs.Outcome.{toldSteps};
+ghost use Rattle.answers.specs.Outcome.{ofSteps, tells};
 ghost use Rattle.conelist.specs.Layout.{PlaceOf};
-ghost use Rattle.list_step.specs.Step.{StepLengthAt};
+ghost use Rattle.conecalls.specs.Deed.{At};
+ghost use Rattle.list_step.specs.Step.{StepLengthDeed};
 
 pub fn step_length(
     list: &[Cone],
@@ -15,7 +16,7 @@ pub fn step_length(
     s: &[f64],
     limit: f64,
 ) -> Steps
-    ensures { λ r. ⌜ toldSteps r ≡ StepLengthAt (PlaceOf (now (list .entry)) k) (now (dz .entry)) (now (ds .entry)) (now (z .entry)) (now (s .entry)) limit ⌝ }
+    ensures { λ r. ⌜ tells (ofSteps r) tt ≡ At (PlaceOf (now (list .entry)) k) (StepLengthDeed limit) (now (dz .entry)) (now (ds .entry)) (now (z .entry)) (now (s .entry)) ⌝ }
 {
     let p = conewalk::place_of(list, k);
     list_step::step_length_at(p, dz, ds, z, s, limit)

@@ -3,15 +3,16 @@ use mathlib.Core.Path.{_≡_}
 use mathlib.Core.List.{List}
 use lib.Ieee.{Float}
 use Rattle.answers.specs.declared.Answer.{Answer}
-use Rattle.answers.specs.Outcome.{Contents, told}
+use Rattle.answers.specs.Outcome.{tells, ofAnswer}
 use Rattle.answers.proofs.Unique.{one-answer}
 use Rattle.conelist.specs.declared.Place.{Place}
-use Rattle.list_units.specs.Units.{ScaledUnitShiftAt, UnitInitializationAt}
+use Rattle.conecalls.specs.Deed.{Whole, Tuple, At}
+use Rattle.list_units.specs.Units.{ScaledUnitShiftDeed, UnitInitializationDeed}
 
 module _ (p : Place) where
-  module _ {r r′ : Answer} {e e′ : Contents} where
-    pub scaled-unit-shift-at : (z : List Float) (α : Float) → told r e ≡ ScaledUnitShiftAt p z α → told r′ e′ ≡ ScaledUnitShiftAt p z α → (r ≡ r′) × (e ≡ e′)
+  module _ {r r′ : Answer} where
+    pub scaled-unit-shift-at : (z : List Float) (α : Float) {e e′ : Tuple Whole (ScaledUnitShiftDeed α .writes)} → tells (ofAnswer r) e ≡ At p (ScaledUnitShiftDeed α) z → tells (ofAnswer r′) e′ ≡ At p (ScaledUnitShiftDeed α) z → (r ≡ r′) × (e ≡ e′)
     scaled-unit-shift-at z α = one-answer
 
-    pub unit-initialization-at : (z s : List Float) → told r e ≡ UnitInitializationAt p z s → told r′ e′ ≡ UnitInitializationAt p z s → (r ≡ r′) × (e ≡ e′)
+    pub unit-initialization-at : (z s : List Float) {e e′ : Tuple Whole (UnitInitializationDeed .writes)} → tells (ofAnswer r) e ≡ At p UnitInitializationDeed z s → tells (ofAnswer r′) e′ ≡ At p UnitInitializationDeed z s → (r ≡ r′) × (e ≡ e′)
     unit-initialization-at z s = one-answer

@@ -7,9 +7,10 @@ ghost use mathlib.Core.Path.{_≡_};
 ghost use mathlib.Core.List.{[], _∷_};
 ghost use lib.ListN.{length};
 ghost use Rattle.answers.specs.Refusal.{Fit};
-ghost use Rattle.answers.specs.Outcome.{told};
+ghost use Rattle.answers.specs.Outcome.{tells, ofAnswer, _⨾_};
 ghost use Rattle.conelist.specs.Layout.{LeastDim, Open, Of, With};
-ghost use Rattle.list_units.specs.Units.{KindUnitShift, KindUnit, ScaledUnitShiftAt, UnitInitializationAt};
+ghost use Rattle.conecalls.specs.Deed.{At, WorksAt};
+ghost use Rattle.list_units.specs.Units.{KindUnitShift, KindUnit, ScaledUnitShiftDeed, UnitInitializationDeed};
 
 // ---- unit shift
 
@@ -34,7 +35,7 @@ fn unit_shift_in(p: Place, z: &mut [f64], alpha: f64)
 }
 
 pub fn scaled_unit_shift_at(p: Place, z: &mut [f64], alpha: f64) -> Answer
-    ensures { λ r. ⌜ told r (now (z .exit) ∷ []) ≡ ScaledUnitShiftAt p (now (z .entry)) alpha ⌝ }
+    ensures { λ r. ⌜ tells (ofAnswer r) (now (z .exit) ⨾ tt) ≡ At p (ScaledUnitShiftDeed alpha) (now (z .entry)) ⌝ }
 {
     let entries = p.entries;
     let no = conelist::refusal(p, z.len() == entries);
@@ -59,8 +60,7 @@ fn kind_unit(kind: Kind, z: &mut [f64])
 
 fn unit_initialization_in(p: Place, z: &mut [f64], s: &mut [f64])
     requires { ⌜ Open p ((length (now z), p .entries) ∷ (length (now s), p .entries) ∷ []) ⌝ }
-    ensures { λ _. ⌜ now (z .exit) ∷ now (s .exit) ∷ [] ≡ With p (now (z .entry)) (KindUnit (p .kind) (length (Of p (now (z .entry)))))
-        ∷ With p (now (s .entry)) (KindUnit (p .kind) (length (Of p (now (s .entry))))) ∷ [] ⌝ }
+    ensures { λ _. ⌜ now (z .exit) ⨾ now (s .exit) ⨾ tt ≡ WorksAt p UnitInitializationDeed (now (z .entry)) (now (s .entry)) .news ⌝ }
 {
     let at = p.start;
     let kind = p.kind;
@@ -70,7 +70,7 @@ fn unit_initialization_in(p: Place, z: &mut [f64], s: &mut [f64])
 }
 
 pub fn unit_initialization_at(p: Place, z: &mut [f64], s: &mut [f64]) -> Answer
-    ensures { λ r. ⌜ told r (now (z .exit) ∷ now (s .exit) ∷ []) ≡ UnitInitializationAt p (now (z .entry)) (now (s .entry)) ⌝ }
+    ensures { λ r. ⌜ tells (ofAnswer r) (now (z .exit) ⨾ now (s .exit) ⨾ tt) ≡ At p UnitInitializationDeed (now (z .entry)) (now (s .entry)) ⌝ }
 {
     let entries = p.entries;
     let no = conelist::refusal(p, (z.len() == entries) & (s.len() == entries));

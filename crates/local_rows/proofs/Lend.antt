@@ -44,9 +44,9 @@ rowVal xs = arrayVal (map (LL.val T.the-type T′.the-laws) xs)
 abbrev pub rowTy : ℕ → Ty
 rowTy n = tyArray T′.mir n
 
--- the reference to the first c records of the local in the block b
-abbrev pub lentRow : ℕ → List Cone → ℕ → GName → RefT (List Cone)
-lentRow c xs b γ = record { ptr = (b, zero); name = γ; now = take c xs }
+-- the reference to the records ys in the block b
+abbrev pub lentAs : List Cone → ℕ → GName → RefT (List Cone)
+lentAs ys b γ = record { ptr = (b, zero); name = γ; now = ys }
 
 module _ {M : Type 1} (𝓤 : URA M) (H : Heap 𝓤) (A : Atoms 𝓤) (W : Given 𝓤 H A) (n : ℕ) where
   abbrev pub known-row : Known 𝓤 H A (Array T.the-row n)
@@ -57,14 +57,14 @@ module _ {M : Type 1} (𝓤 : URA M) (H : Heap 𝓤) (A : Atoms 𝓤) (W : Given
     abbrev Front : Fml
     Front = arr-parts (shares T.the-row) (length (take c xs)) .part fullShare (take c xs) b zero
 
-    abbrev Behind : Fml
-    Behind = cells (mem T.the-row) (past c xs) b (at zero (mem T.the-row .size) (length (take c xs)))
+    abbrev Unlent : Fml
+    Unlent = cells (mem T.the-row) (past c xs) b (at zero (mem T.the-row .size) (length (take c xs)))
 
     abbrev pub Waits : ℕ → Fml
-    Waits α = fsep (flent (α ∷ []) Front) Behind
+    Waits α = fsep (flent (α ∷ []) Front) Unlent
 
     abbrev pub Own : ℕ → GName → ℕ → Fml
-    Own α γ m = ShrSlice (named 0) (α ∷ []) T.the-row .own (lentRow c xs b γ) (sliceVal (b, zero) m ∷ [])
+    Own α γ m = ShrSlice (named 0) (α ∷ []) T.the-row .own (lentAs (take c xs) b γ) (sliceVal (b, zero) m ∷ [])
 
     abbrev pub Lent : ℕ → GName → SProp 𝓤
     Lent α γ = sep 𝓤 (A .lft (α ∷ []) fullShare) (sep 𝓤 (sem 𝓤 H A (Own α γ c)) (sem 𝓤 H A (Waits α)))
@@ -93,7 +93,7 @@ module _ {M : Type 1} (𝓤 : URA M) (H : Heap 𝓤) (A : Atoms 𝓤) (W : Given
       lends is le room =
           qed W (‵ (fat fullShare (rowTy n) b zero (rowVal xs)) ∷ []) ∵ updating ! $ use1 W (‵ (cells (mem T.the-row) xs b zero)) (apart is) $
           rewrite ! 0 (λ (ys : List Cone). ‵ (cells (mem T.the-row) ys b zero)) (sym (take-append-drop c xs)) refl $
-          use1 W (‵ (cells (mem T.the-row) (take c xs) b zero) ⊛ ‵ Behind) (cut-app 𝓤 H A (mem T.the-row) (take c xs) (past c xs) b zero) $ split ! $
+          use1 W (‵ (cells (mem T.the-row) (take c xs) b zero) ⊛ ‵ Unlent) (cut-app 𝓤 H A (mem T.the-row) (take c xs) (past c xs) b zero) $ split ! $
           rewrite ! 0 (λ (F : Fml). ‵ F) (sym (parts-cells T.the-row fullShare (take c xs) b zero)) refl $ feqI ! ℕ (length (take c xs)) (length (take c xs)) refl $ fjoin ! $
           lft-new ! tt (λ α. move ! (1 ∷ []) $
           use1 W (later (some (λ (γ : GName). ‵ (Own α γ (length (take c xs))) ⊛ ‵ (flent (α ∷ []) Front)))) (lends-shr-slice 𝓤 H A W T.the-row (named 0) (α ∷ []) fullShare (take c xs) b zero (room-take T.the-row n c xs l room)) $ await ! tt $ pick ! (λ γ. split ! $

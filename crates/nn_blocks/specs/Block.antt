@@ -3,7 +3,7 @@ use mathlib.Core.List.{List, [], _∷_}
 use lib.ListN.{length}
 use lib.Ieee.{Float}
 use Rattle.answers.specs.Refusal.{Refusal}
-use Rattle.answers.specs.Outcome.{done, Came, Call}
+use Rattle.answers.specs.Outcome.{done, Came, Call, _⨾_}
 use Rattle.vecmath.specs.Vector.{Products}
 
 -- ---- the values
@@ -14,5 +14,5 @@ NonnegHs w = Products w w
 
 -- ---- the bare calls
 
-abbrev pub NnGetHs : List Float → List Float → Came
-NnGetHs hs w = Call (Refusal 0 (length w) (length hs ∷ [])) done (hs ∷ []) (NonnegHs w ∷ [])
+abbrev pub NnGetHs : List Float → List Float → Came 1 0
+NnGetHs hs w = Call (Refusal 0 (length w) (length hs ∷ [])) done (hs ⨾ tt) (NonnegHs w ⨾ tt)

@@ -5,7 +5,7 @@ ghost use mathlib.Core.Path.{_≡_};
 ghost use mathlib.Core.List.{[], _∷_};
 ghost use lib.ListN.{length};
 ghost use Rattle.answers.specs.Refusal.{Fit};
-ghost use Rattle.answers.specs.Outcome.{told};
+ghost use Rattle.answers.specs.Outcome.{tells, ofAnswer, _⨾_};
 ghost use Rattle.nn_blocks.specs.Block.{NonnegHs, NnGetHs};
 
 pub fn get_hs(hs: &mut [f64], w: &[f64])
@@ -17,7 +17,7 @@ pub fn get_hs(hs: &mut [f64], w: &[f64])
 
 // hs = w², entry by entry
 pub fn nn_get_hs(hs: &mut [f64], w: &[f64]) -> Answer
-    ensures { λ r. ⌜ told r (now (hs .exit) ∷ []) ≡ NnGetHs (now (hs .entry)) (now (w .entry)) ⌝ }
+    ensures { λ r. ⌜ tells (ofAnswer r) (now (hs .exit) ⨾ tt) ≡ NnGetHs (now (hs .entry)) (now (w .entry)) ⌝ }
 {
     let no = answers::refusal(0, w.len(), hs.len() == w.len());
     if no != 0 {

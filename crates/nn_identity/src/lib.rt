@@ -3,9 +3,8 @@
 use answers::Answer;
 ghost use mathlib.Core.Path.{_≡_};
 ghost use mathlib.Core.Bool.{true};
-ghost use mathlib.Core.List.{[], _∷_};
 ghost use lib.ListN.{length};
-ghost use Rattle.answers.specs.Outcome.{told};
+ghost use Rattle.answers.specs.Outcome.{tells, ofAnswer, _⨾_};
 ghost use Rattle.nn_units.specs.Units.{NonnegUnit};
 ghost use Rattle.nn_identity.specs.Identity.{NnSetIdentityScaling};
 
@@ -17,7 +16,7 @@ pub fn set_identity_scaling(w: &mut [f64])
 
 // w = (1, 1, ..)
 pub fn nn_set_identity_scaling(w: &mut [f64]) -> Answer
-    ensures { λ r. ⌜ told r (now (w .exit) ∷ []) ≡ NnSetIdentityScaling (now (w .entry)) ⌝ }
+    ensures { λ r. ⌜ tells (ofAnswer r) (now (w .exit) ⨾ tt) ≡ NnSetIdentityScaling (now (w .entry)) ⌝ }
 {
     let no = answers::refusal(0, w.len(), true);
     if no != 0 {

@@ -4,7 +4,7 @@ use mathlib.Core.List.{List, [], _∷_}
 use lib.ListN.{length}
 use lib.Ieee.{Float}
 use Rattle.answers.specs.Refusal.{Refusal}
-use Rattle.answers.specs.Outcome.{done, Came, Call}
+use Rattle.answers.specs.Outcome.{done, Came, Call, _⨾_}
 use Rattle.vecmath.specs.Vector.{Quotients}
 
 -- ---- the values
@@ -15,8 +15,8 @@ NonnegInvCirc y z = Quotients z y
 
 -- ---- the bare calls
 
-abbrev pub NnInvCircOp : List Float → List Float → List Float → Came
-NnInvCircOp x y z = Call (Refusal 0 (length x) (length y ∷ length z ∷ [])) done (x ∷ []) (NonnegInvCirc y z ∷ [])
+abbrev pub NnInvCircOp : List Float → List Float → List Float → Came 1 0
+NnInvCircOp x y z = Call (Refusal 0 (length x) (length y ∷ length z ∷ [])) done (x ⨾ tt) (NonnegInvCirc y z ⨾ tt)
 
-abbrev pub NnLambdaInvCircOp : List Float → List Float → List Float → Came
-NnLambdaInvCircOp x z lambda = Call (Refusal 0 (length x) (length z ∷ length lambda ∷ [])) done (x ∷ []) (NonnegInvCirc lambda z ∷ [])
+abbrev pub NnLambdaInvCircOp : List Float → List Float → List Float → Came 1 0
+NnLambdaInvCircOp x z lambda = Call (Refusal 0 (length x) (length z ∷ length lambda ∷ [])) done (x ⨾ tt) (NonnegInvCirc lambda z ⨾ tt)

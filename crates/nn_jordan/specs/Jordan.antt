@@ -4,7 +4,7 @@ use mathlib.Core.List.{List, [], _∷_}
 use lib.ListN.{length}
 use lib.Ieee.{Float}
 use Rattle.answers.specs.Refusal.{Refusal}
-use Rattle.answers.specs.Outcome.{done, Came, Call}
+use Rattle.answers.specs.Outcome.{done, Came, Call, _⨾_}
 use Rattle.vecmath.specs.Vector.{Products}
 
 -- ---- the values
@@ -19,8 +19,8 @@ NonnegCirc y z = Products y z
 
 -- ---- the bare calls
 
-abbrev pub NnAffineDs : List Float → List Float → Came
-NnAffineDs ds lambda = Call (Refusal 0 (length ds) (length lambda ∷ [])) done (ds ∷ []) (NonnegAffineDs lambda ∷ [])
+abbrev pub NnAffineDs : List Float → List Float → Came 1 0
+NnAffineDs ds lambda = Call (Refusal 0 (length ds) (length lambda ∷ [])) done (ds ⨾ tt) (NonnegAffineDs lambda ⨾ tt)
 
-abbrev pub NnCircOp : List Float → List Float → List Float → Came
-NnCircOp x y z = Call (Refusal 0 (length x) (length y ∷ length z ∷ [])) done (x ∷ []) (NonnegCirc y z ∷ [])
+abbrev pub NnCircOp : List Float → List Float → List Float → Came 1 0
+NnCircOp x y z = Call (Refusal 0 (length x) (length y ∷ length z ∷ [])) done (x ⨾ tt) (NonnegCirc y z ⨾ tt)

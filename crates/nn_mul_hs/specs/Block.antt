@@ -3,7 +3,7 @@ use mathlib.Core.List.{List, [], _∷_}
 use lib.ListN.{length}
 use lib.Ieee.{Float}
 use Rattle.answers.specs.Refusal.{Refusal}
-use Rattle.answers.specs.Outcome.{done, Came, Call}
+use Rattle.answers.specs.Outcome.{done, Came, Call, _⨾_}
 use Rattle.vecmath.specs.Double.{_⊗_, _!_}
 use Rattle.vecmath.specs.Vector.{Each}
 
@@ -15,5 +15,5 @@ NonnegMulHs x w = Each (length x) (λ k. w ! k ⊗ (w ! k ⊗ x ! k))
 
 -- ---- the bare calls
 
-abbrev pub NnMulHs : List Float → List Float → List Float → Came
-NnMulHs y x w = Call (Refusal 0 (length y) (length x ∷ length w ∷ [])) done (y ∷ []) (NonnegMulHs x w ∷ [])
+abbrev pub NnMulHs : List Float → List Float → List Float → Came 1 0
+NnMulHs y x w = Call (Refusal 0 (length y) (length x ∷ length w ∷ [])) done (y ⨾ tt) (NonnegMulHs x w ⨾ tt)

@@ -5,7 +5,7 @@ ghost use mathlib.Core.Path.{_≡_};
 ghost use mathlib.Core.List.{[], _∷_};
 ghost use lib.ListN.{length};
 ghost use Rattle.answers.specs.Refusal.{Fit};
-ghost use Rattle.answers.specs.Outcome.{told};
+ghost use Rattle.answers.specs.Outcome.{tells, ofAnswer, _⨾_};
 ghost use Rattle.nn_mul_hs.specs.Block.{NonnegMulHs, NnMulHs};
 
 pub fn mul_hs(y: &mut [f64], x: &[f64], w: &[f64])
@@ -21,7 +21,7 @@ pub fn mul_hs(y: &mut [f64], x: &[f64], w: &[f64])
 
 // y = w·(w·x), entry by entry
 pub fn nn_mul_hs(y: &mut [f64], x: &[f64], w: &[f64]) -> Answer
-    ensures { λ r. ⌜ told r (now (y .exit) ∷ []) ≡ NnMulHs (now (y .entry)) (now (x .entry)) (now (w .entry)) ⌝ }
+    ensures { λ r. ⌜ tells (ofAnswer r) (now (y .exit) ⨾ tt) ≡ NnMulHs (now (y .entry)) (now (x .entry)) (now (w .entry)) ⌝ }
 {
     let no = answers::refusal(0, y.len(), (x.len() == y.len()) & (w.len() == y.len()));
     if no != 0 {

@@ -3,7 +3,7 @@ use mathlib.Core.List.{List, [], _∷_}
 use lib.ListN.{length}
 use lib.Ieee.{Float}
 use Rattle.answers.specs.Refusal.{Refusal}
-use Rattle.answers.specs.Outcome.{done, Came, Call}
+use Rattle.answers.specs.Outcome.{done, Came, Call, _⨾_}
 use Rattle.vecmath.specs.Vector.{Quotients}
 
 -- ---- the values
@@ -14,5 +14,5 @@ NonnegOffset ds z = Quotients ds z
 
 -- ---- the bare calls
 
-abbrev pub NnDsFromDzOffset : List Float → List Float → List Float → Came
-NnDsFromDzOffset out ds z = Call (Refusal 0 (length out) (length ds ∷ length z ∷ [])) done (out ∷ []) (NonnegOffset ds z ∷ [])
+abbrev pub NnDsFromDzOffset : List Float → List Float → List Float → Came 1 0
+NnDsFromDzOffset out ds z = Call (Refusal 0 (length out) (length ds ∷ length z ∷ [])) done (out ⨾ tt) (NonnegOffset ds z ⨾ tt)

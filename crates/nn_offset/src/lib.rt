@@ -5,7 +5,7 @@ ghost use mathlib.Core.Path.{_≡_};
 ghost use mathlib.Core.List.{[], _∷_};
 ghost use lib.ListN.{length};
 ghost use Rattle.answers.specs.Refusal.{Fit};
-ghost use Rattle.answers.specs.Outcome.{told};
+ghost use Rattle.answers.specs.Outcome.{tells, ofAnswer, _⨾_};
 ghost use Rattle.nn_offset.specs.Offset.{NonnegOffset, NnDsFromDzOffset};
 
 pub fn ds_from_dz_offset(out: &mut [f64], ds: &[f64], z: &[f64])
@@ -17,7 +17,7 @@ pub fn ds_from_dz_offset(out: &mut [f64], ds: &[f64], z: &[f64])
 
 // out = ds/z, entry by entry
 pub fn nn_ds_from_dz_offset(out: &mut [f64], ds: &[f64], z: &[f64]) -> Answer
-    ensures { λ r. ⌜ told r (now (out .exit) ∷ []) ≡ NnDsFromDzOffset (now (out .entry)) (now (ds .entry)) (now (z .entry)) ⌝ }
+    ensures { λ r. ⌜ tells (ofAnswer r) (now (out .exit) ⨾ tt) ≡ NnDsFromDzOffset (now (out .entry)) (now (ds .entry)) (now (z .entry)) ⌝ }
 {
     let no = answers::refusal(
         0,

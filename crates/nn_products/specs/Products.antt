@@ -3,7 +3,7 @@ use mathlib.Core.List.{List, [], _∷_}
 use lib.ListN.{length}
 use lib.Ieee.{Float}
 use Rattle.answers.specs.Refusal.{Refusal}
-use Rattle.answers.specs.Outcome.{done, Came, Call}
+use Rattle.answers.specs.Outcome.{done, Came, Call, _⨾_}
 use Rattle.vecmath.specs.Double.{_⊕_, _⊗_, _⊘_, _!_}
 use Rattle.vecmath.specs.Vector.{Each}
 
@@ -19,8 +19,8 @@ NonnegMulWinv y x α β w = Each (length y) (λ k. α ⊗ (x ! k ⊘ w ! k) ⊕ 
 
 -- ---- the bare calls
 
-abbrev pub NnMulW : List Float → List Float → Float → Float → List Float → Came
-NnMulW y x α β w = Call (Refusal 0 (length y) (length x ∷ length w ∷ [])) done (y ∷ []) (NonnegMulW y x α β w ∷ [])
+abbrev pub NnMulW : List Float → List Float → Float → Float → List Float → Came 1 0
+NnMulW y x α β w = Call (Refusal 0 (length y) (length x ∷ length w ∷ [])) done (y ⨾ tt) (NonnegMulW y x α β w ⨾ tt)
 
-abbrev pub NnMulWinv : List Float → List Float → Float → Float → List Float → Came
-NnMulWinv y x α β w = Call (Refusal 0 (length y) (length x ∷ length w ∷ [])) done (y ∷ []) (NonnegMulWinv y x α β w ∷ [])
+abbrev pub NnMulWinv : List Float → List Float → Float → Float → List Float → Came 1 0
+NnMulWinv y x α β w = Call (Refusal 0 (length y) (length x ∷ length w ∷ [])) done (y ⨾ tt) (NonnegMulWinv y x α β w ⨾ tt)

@@ -5,7 +5,7 @@ ghost use mathlib.Core.Path.{_≡_};
 ghost use mathlib.Core.List.{[], _∷_};
 ghost use lib.ListN.{length};
 ghost use Rattle.answers.specs.Refusal.{Fit};
-ghost use Rattle.answers.specs.Outcome.{told};
+ghost use Rattle.answers.specs.Outcome.{tells, ofAnswer, _⨾_};
 ghost use Rattle.nn_products.specs.Products.{NonnegMulW, NonnegMulWinv, NnMulW, NnMulWinv};
 
 pub fn mul_w(y: &mut [f64], x: &[f64], alpha: f64, beta: f64, w: &[f64])
@@ -21,7 +21,7 @@ pub fn mul_w(y: &mut [f64], x: &[f64], alpha: f64, beta: f64, w: &[f64])
 
 // y = alpha·W·x + beta·y
 pub fn nn_mul_w(y: &mut [f64], x: &[f64], alpha: f64, beta: f64, w: &[f64]) -> Answer
-    ensures { λ r. ⌜ told r (now (y .exit) ∷ []) ≡ NnMulW (now (y .entry)) (now (x .entry)) alpha beta (now (w .entry)) ⌝ }
+    ensures { λ r. ⌜ tells (ofAnswer r) (now (y .exit) ⨾ tt) ≡ NnMulW (now (y .entry)) (now (x .entry)) alpha beta (now (w .entry)) ⌝ }
 {
     let no = answers::refusal(0, y.len(), (x.len() == y.len()) & (w.len() == y.len()));
     if no != 0 {
@@ -44,7 +44,7 @@ pub fn mul_winv(y: &mut [f64], x: &[f64], alpha: f64, beta: f64, w: &[f64])
 
 // y = alpha·W⁻¹·x + beta·y
 pub fn nn_mul_winv(y: &mut [f64], x: &[f64], alpha: f64, beta: f64, w: &[f64]) -> Answer
-    ensures { λ r. ⌜ told r (now (y .exit) ∷ []) ≡ NnMulWinv (now (y .entry)) (now (x .entry)) alpha beta (now (w .entry)) ⌝ }
+    ensures { λ r. ⌜ tells (ofAnswer r) (now (y .exit) ⨾ tt) ≡ NnMulWinv (now (y .entry)) (now (x .entry)) alpha beta (now (w .entry)) ⌝ }
 {
     let no = answers::refusal(0, y.len(), (x.len() == y.len()) & (w.len() == y.len()));
     if no != 0 {

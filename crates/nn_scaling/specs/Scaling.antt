@@ -5,7 +5,7 @@ use lib.ListN.{length}
 use lib.Ieee.{Float}
 use Rattle.root.specs.Root.{Root}
 use Rattle.answers.specs.Refusal.{Refusal}
-use Rattle.answers.specs.Outcome.{truth, Came, Call}
+use Rattle.answers.specs.Outcome.{truth, Came, Call, _⨾_}
 use Rattle.vecmath.specs.Double.{_⊗_, _⊘_, _!_}
 use Rattle.vecmath.specs.Vector.{Each}
 
@@ -22,7 +22,7 @@ NonnegW s z = Each (length s) (λ k. Root (s ! k ⊘ z ! k))
 -- ---- the bare calls
 
 -- always true
-abbrev pub NnUpdateScaling : List Float → List Float → List Float → List Float → Came
+abbrev pub NnUpdateScaling : List Float → List Float → List Float → List Float → Came 2 0
 NnUpdateScaling s z w lambda =
-    Call (Refusal 0 (length s) (length z ∷ length w ∷ length lambda ∷ [])) (truth true) (w ∷ lambda ∷ [])
-    (NonnegW s z ∷ NonnegLambda s z ∷ [])
+    Call (Refusal 0 (length s) (length z ∷ length w ∷ length lambda ∷ [])) (truth true) (w ⨾ lambda ⨾ tt)
+    (NonnegW s z ⨾ NonnegLambda s z ⨾ tt)

@@ -6,7 +6,7 @@ ghost use mathlib.Core.Bool.{true};
 ghost use mathlib.Core.List.{[], _∷_};
 ghost use lib.ListN.{length};
 ghost use Rattle.answers.specs.Refusal.{Fit};
-ghost use Rattle.answers.specs.Outcome.{toldScaling};
+ghost use Rattle.answers.specs.Outcome.{tells, ofScaling, _⨾_};
 ghost use Rattle.nn_scaling.specs.Scaling.{NonnegLambda, NonnegW, NnUpdateScaling};
 
 pub fn update_scaling(s: &[f64], z: &[f64], w: &mut [f64], lambda: &mut [f64]) -> bool
@@ -26,7 +26,7 @@ pub fn update_scaling(s: &[f64], z: &[f64], w: &mut [f64], lambda: &mut [f64]) -
 
 // lambda = √(s·z) and w = √(s/z), entry by entry; always true
 pub fn nn_update_scaling(s: &[f64], z: &[f64], w: &mut [f64], lambda: &mut [f64]) -> Scaling
-    ensures { λ r. ⌜ toldScaling r (now (w .exit) ∷ now (lambda .exit) ∷ [])
+    ensures { λ r. ⌜ tells (ofScaling r) (now (w .exit) ⨾ now (lambda .exit) ⨾ tt)
         ≡ NnUpdateScaling (now (s .entry)) (now (z .entry)) (now (w .entry)) (now (lambda .entry)) ⌝ }
 {
     let no = answers::refusal(
@@ -37,5 +37,5 @@ pub fn nn_update_scaling(s: &[f64], z: &[f64], w: &mut [f64], lambda: &mut [f64]
     if no != 0 {
         return Scaling::Refused(no);
     }
-    Scaling::Told(update_scaling(s, z, w, lambda))
+    Scaling::Truth(update_scaling(s, z, w, lambda))
 }

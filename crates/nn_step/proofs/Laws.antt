@@ -19,12 +19,12 @@ use Rattle.nn_step.specs.Step.{Shorter, NonnegStep, NoneBelow}
 
 -- for a least under which a NaN is handed on (`low`): where the answer at some limit l₀ is none
 module _ (low : Bool) (_⊓_ : Float → Float → Float) (ed : Edition (UpTo low) _⊓_) (l₀ : Float) where
-  pub shortens : (dz z : List Float) → NoneBelow z → NoNan low (NonnegStep _⊓_ dz z l₀) → Shortens low _⊓_ ed (NonnegStep _⊓_ dz z)
+  pub shortens : (dz z : List Float) → NoneBelow z → NoNan low (NonnegStep _⊓_ z dz l₀) → Shortens low _⊓_ ed (NonnegStep _⊓_ z dz)
   unfolding NonnegStep Fold
   shortens dz z h = turns (length dz)
     where
       run : ℕ → Float → Float
-      run n l = Fold n l (λ k α. Shorter _⊓_ (dz ! k) (z ! k) α)
+      run n l = Fold n l (λ k α. Shorter _⊓_ (z ! k) (dz ! k) α)
 
       turns : (n : ℕ) → NoNan low (run n l₀) → Shortens low _⊓_ ed (run n)
       turns zero t = limit-itself low _⊓_ ed
@@ -39,12 +39,12 @@ module _ (low : Bool) (_⊓_ : Float → Float → Float) (ed : Edition (UpTo lo
 
 -- for any point: beside its limit it counts as much as it does without one
 module _ (low : Bool) (_⊓_ : Float → Float → Float) (ed : Edition (UpTo low) _⊓_) where
-  pub trims : (dz z : List Float) → Trims (UpTo low) _⊓_ ed ∞ (NonnegStep _⊓_ dz z)
+  pub trims : (dz z : List Float) → Trims (UpTo low) _⊓_ ed ∞ (NonnegStep _⊓_ z dz)
   unfolding NonnegStep Fold
   trims dz z = turns (length dz)
     where
       run : ℕ → Float → Float
-      run n l = Fold n l (λ k α. Shorter _⊓_ (dz ! k) (z ! k) α)
+      run n l = Fold n l (λ k α. Shorter _⊓_ (z ! k) (dz ! k) α)
 
       turns : (n : ℕ) → Trims (UpTo low) _⊓_ ed ∞ (run n)
       turns zero = trims-limit (UpTo low) _⊓_ ed ∞
@@ -56,9 +56,9 @@ module _ (low : Bool) (_⊓_ : Float → Float → Float) (ed : Edition (UpTo lo
 
 -- for a limit that is admitted, and a point none of whose entries is below zero
 pub within : (dz z : List Float) (αmax : Float) → NoneBelow z → isNan αmax ≡ false → lt αmax 𝟎 ≡ false
-    → (le 𝟎 (NonnegStep Least dz z αmax) ≡ true) × (le (NonnegStep Least dz z αmax) αmax ≡ true)
+    → (le 𝟎 (NonnegStep Least z dz αmax) ≡ true) × (le (NonnegStep Least z dz αmax) αmax ≡ true)
 within dz z αmax h number admitted =
-    between false Least document-01 αmax number admitted (NonnegStep Least dz z) (shortens false Least document-01 αmax dz z h (λ e. absurd (false≢true e)))
+    between false Least document-01 αmax number admitted (NonnegStep Least z dz) (shortens false Least document-01 αmax dz z h (λ e. absurd (false≢true e)))
 
 -- ---- one entry, with document 01's least: where x is above −(α·y) rounded, it leaves α
 
@@ -68,7 +68,7 @@ number nan x y h = absurd (false≢true h)
 number (inf s) x y h = refl
 number (fin s m e) x y h = refl
 
-pub stays : (α x y : Float) → T (fits binary64 α) → T (fits binary64 x) → lt (neg (α ⊗ y)) x ≡ true → α ≡ Shorter Least y x α
+pub stays : (α x y : Float) → T (fits binary64 α) → T (fits binary64 x) → lt (neg (α ⊗ y)) x ≡ true → α ≡ Shorter Least x y α
 stays α x y f g h = go (lt y 𝟎) refl
   where
     go : (b : Bool) → lt y 𝟎 ≡ b → α ≡ cond b (Least α (neg x ⊘ y)) α

@@ -8,12 +8,12 @@ ghost use mathlib.Core.List.{[], _∷_};
 ghost use lib.ListN.{length};
 ghost use Rattle.extrema.specs.Extrema.{Least};
 ghost use Rattle.answers.specs.Refusal.{Fit};
-ghost use Rattle.answers.specs.Outcome.{lengths, toldStep, toldSteps};
+ghost use Rattle.answers.specs.Outcome.{lengths, tells, ofStep, ofSteps};
 ghost use Rattle.nn_step.specs.Step.{Shorter, NonnegStep, NonnegSteps, NnStep, NnStepLength};
 
 // The step that one entry x leaves along y. Most entries leave alpha, and a product tells that without a division, whatever the sign of y.
 fn shorter(alpha: f64, x: f64, y: f64) -> f64
-    ensures { λ r. ⌜ r ≡ Shorter Least y x alpha ⌝ }
+    ensures { λ r. ⌜ r ≡ Shorter Least x y alpha ⌝ }
 {
     if x > -(alpha * y) {
         return alpha;
@@ -24,7 +24,7 @@ fn shorter(alpha: f64, x: f64, y: f64) -> f64
 
 pub fn step(x: &[f64], y: &[f64], limit: f64) -> f64
     requires { ⌜ Fit 0 (length (now x)) (length (now y) ∷ []) ⌝ }
-    ensures { λ r. ⌜ r ≡ NonnegStep Least (now (y .entry)) (now (x .entry)) limit ⌝ }
+    ensures { λ r. ⌜ r ≡ NonnegStep Least (now (x .entry)) (now (y .entry)) limit ⌝ }
 {
     let mut alpha = limit;
     let mut i = 0;
@@ -37,7 +37,7 @@ pub fn step(x: &[f64], y: &[f64], limit: f64) -> f64
 
 // The step of the point x along the direction y, of at most limit.
 pub fn nn_step(x: &[f64], y: &[f64], limit: f64) -> Step
-    ensures { λ r. ⌜ toldStep r ≡ NnStep (now (x .entry)) (now (y .entry)) limit ⌝ }
+    ensures { λ r. ⌜ tells (ofStep r) tt ≡ NnStep (now (x .entry)) (now (y .entry)) limit ⌝ }
 {
     let no = answers::step_refusal(0, x.len(), y.len() == x.len(), limit);
     if no != 0 {
@@ -67,7 +67,7 @@ pub fn step_length(dz: &[f64], ds: &[f64], z: &[f64], s: &[f64], limit: f64) -> 
 
 // The two step lengths, z side and s side: of z along dz, and of s along ds.
 pub fn nn_step_length(dz: &[f64], ds: &[f64], z: &[f64], s: &[f64], limit: f64) -> Steps
-    ensures { λ r. ⌜ toldSteps r
+    ensures { λ r. ⌜ tells (ofSteps r) tt
         ≡ NnStepLength (now (dz .entry)) (now (ds .entry)) (now (z .entry)) (now (s .entry)) limit ⌝ }
 {
     let no = answers::step_refusal(

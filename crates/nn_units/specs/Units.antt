@@ -4,7 +4,7 @@ use mathlib.Core.List.{List, [], _∷_}
 use lib.ListN.{length}
 use lib.Ieee.{Float}
 use Rattle.answers.specs.Refusal.{Refusal}
-use Rattle.answers.specs.Outcome.{Reply, done, margins, Came, Call}
+use Rattle.answers.specs.Outcome.{Reply, done, margins, Came, Call, _⨾_}
 use Rattle.vecmath.specs.Double.{𝟏}
 use Rattle.vecmath.specs.Vector.{Minimum, Positives, Constant, Translate}
 
@@ -24,12 +24,12 @@ NonnegMargins z = margins (Minimum z) (Positives z)
 
 -- ---- the bare calls
 
-abbrev pub NnScaledUnitShift : List Float → Float → Came
-NnScaledUnitShift z α = Call (Refusal 0 (length z) []) done (z ∷ []) (NonnegShift α z ∷ [])
+abbrev pub NnScaledUnitShift : List Float → Float → Came 1 0
+NnScaledUnitShift z α = Call (Refusal 0 (length z) []) done (z ⨾ tt) (NonnegShift α z ⨾ tt)
 
-abbrev pub NnUnitInitialization : List Float → List Float → Came
+abbrev pub NnUnitInitialization : List Float → List Float → Came 2 0
 NnUnitInitialization z s =
-    Call (Refusal 0 (length z) (length s ∷ [])) done (z ∷ s ∷ []) (NonnegUnit (length z) ∷ NonnegUnit (length s) ∷ [])
+    Call (Refusal 0 (length z) (length s ∷ [])) done (z ⨾ s ⨾ tt) (NonnegUnit (length z) ⨾ NonnegUnit (length s) ⨾ tt)
 
-abbrev pub NnMargins : List Float → Came
-NnMargins z = Call (Refusal 0 (length z) []) (NonnegMargins z) [] []
+abbrev pub NnMargins : List Float → Came 0 0
+NnMargins z = Call (Refusal 0 (length z) []) (NonnegMargins z) tt tt

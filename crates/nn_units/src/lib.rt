@@ -4,9 +4,8 @@ use answers::Answer;
 use answers::Margins;
 ghost use mathlib.Core.Path.{_≡_};
 ghost use mathlib.Core.Bool.{true};
-ghost use mathlib.Core.List.{[], _∷_};
 ghost use lib.ListN.{length};
-ghost use Rattle.answers.specs.Outcome.{gives, ofMargins, told, toldMargins};
+ghost use Rattle.answers.specs.Outcome.{gives, ofMargins, tells, ofAnswer, _⨾_};
 ghost use Rattle.nn_units.specs.Units.{NonnegMargins, NonnegShift, NonnegUnit, NnMargins, NnScaledUnitShift, NnUnitInitialization};
 
 // ---- margins
@@ -19,7 +18,7 @@ pub fn margins(z: &[f64]) -> Margins
 }
 
 pub fn nn_margins(z: &[f64]) -> Margins
-    ensures { λ r. ⌜ toldMargins r ≡ NnMargins (now (z .entry)) ⌝ }
+    ensures { λ r. ⌜ tells (ofMargins r) tt ≡ NnMargins (now (z .entry)) ⌝ }
 {
     let no = answers::refusal(0, z.len(), true);
     if no != 0 {
@@ -38,7 +37,7 @@ pub fn scaled_unit_shift(z: &mut [f64], alpha: f64)
 
 // z = z + alpha·(1, 1, ..)
 pub fn nn_scaled_unit_shift(z: &mut [f64], alpha: f64) -> Answer
-    ensures { λ r. ⌜ told r (now (z .exit) ∷ []) ≡ NnScaledUnitShift (now (z .entry)) alpha ⌝ }
+    ensures { λ r. ⌜ tells (ofAnswer r) (now (z .exit) ⨾ tt) ≡ NnScaledUnitShift (now (z .entry)) alpha ⌝ }
 {
     let no = answers::refusal(0, z.len(), true);
     if no != 0 {
@@ -58,7 +57,7 @@ pub fn unit_initialization(z: &mut [f64], s: &mut [f64])
 
 // z = s = (1, 1, ..)
 pub fn nn_unit_initialization(z: &mut [f64], s: &mut [f64]) -> Answer
-    ensures { λ r. ⌜ told r (now (z .exit) ∷ now (s .exit) ∷ []) ≡ NnUnitInitialization (now (z .entry)) (now (s .entry)) ⌝ }
+    ensures { λ r. ⌜ tells (ofAnswer r) (now (z .exit) ⨾ now (s .exit) ⨾ tt) ≡ NnUnitInitialization (now (z .entry)) (now (s .entry)) ⌝ }
 {
     let no = answers::refusal(0, z.len(), s.len() == z.len());
     if no != 0 {

@@ -2,7 +2,7 @@
 use mathlib.Core.Path.{_≡_, subst}
 use mathlib.Core.List.{List, [], _∷_, map, List·Permᴰ, List·Permᴰ·nil, List·Permᴰ·cons, List·Permᴰ·swap, List·Permᴰ·trans, Permᴰ·symm}
 use mathlib.Core.Logic.{_⊎_, inl, inr, _↔_}
-use Rattle.ordering.specs.Upto.{Over, Handed, Passed, Limits}
+use Rattle.ordering.specs.Upto.{Over, Handed, LeastLimits, Passed, Limits}
 
 abbrev pub All : {A : Type 0} → (A → Type 0) → List A → Type 0
 All P [] = Unit {0}
@@ -176,6 +176,13 @@ module _ {A : Type 0} (_≼_ : A → A → Type 0) (_⊓_ : A → A → A) where
       pub limits : (l : A) (steps : List (A → A)) → Limit l → All Cuts steps → All Limit (Limits l steps)
       limits l [] h cs = tt
       limits l (s ∷ ss) h cs = (h, limits (s l) ss (next l s h (cs .0)) (cs .1))
+
+      -- and so is each where the running least is handed on
+      pub handed-limits : (l : A) (steps : List (A → A)) → Limit l → All Cuts steps → All Limit (LeastLimits _⊓_ l steps)
+      handed-limits l [] h cs = tt
+      handed-limits l (s ∷ ss) h cs =
+          let n = next l s h (cs .0) in
+          (h, handed-limits (l ⊓ s l) ss (meet o l (s l) (h .0) (n .0), ed .chain _ l i (lower l (s l) .0) (h .1)) (cs .1))
 
       -- the list's step lies between o and i too
       pub within : (l : A) (steps : List (A → A)) → Limit l → All Cuts steps → Limit (Over _⊓_ l (map (λ s. s l) steps))

@@ -10,9 +10,9 @@ use borrow.Author.Tests.{not-true}
 use lib.Ieee.{Float, nan, inf, fin, isNan, lt, le, eq, ofBits}
 use Rattle.vecmath.specs.Vector.{Each, Fold}
 use Rattle.vecmath.specs.Double.{𝟎, ∞}
-use Rattle.ordering.specs.Upto.{Upto, SameValue, Over, Handed, ListStep, Passed, Limits}
+use Rattle.ordering.specs.Upto.{Upto, SameValue, Over, Handed, LeastLimits, ListStep, Passed, Limits}
 use Rattle.ordering.proofs.Order.{nan-is, nan-lt, eq-is, le-is}
-use Rattle.ordering.proofs.Least.{All, Edition, over-lower, one-value, Limit, Trims, bounds, within, handing-on, passing-on, limits}
+use Rattle.ordering.proofs.Least.{All, Edition, over-lower, one-value, Limit, Trims, bounds, within, handing-on, passing-on, limits, handed-limits}
 use Rattle.ordering.proofs.Shortens.{UpTo, self, chain, Shortens, zero-up-to}
 
 -- ---- one value
@@ -108,12 +108,16 @@ module _ (low : Bool) (_⊓_ : Float → Float → Float) (ed : Edition (UpTo lo
         let w = within (UpTo low) _⊓_ ed 𝟎 ∞ limit steps admitted h in
         by-value _ _ (number low _ (w .0) (w .1)) (same-value low _ _ (v .0) (v .1))
 
+    all-admitted : (ls : List Float) → All (Limit (UpTo low) _⊓_ ed 𝟎 ∞) ls → All (λ l. le 𝟎 l ≡ true) ls
+    all-admitted [] h = tt
+    all-admitted (l ∷ ls) h = (from-zero low l (h .0 .0) (h .0 .1), all-admitted ls (h .1))
+
     pub limits-admitted : (steps : List (Float → Float)) → All (Shortens low _⊓_ ed) steps → All (λ l. le 𝟎 l ≡ true) (Limits limit steps)
-    limits-admitted steps h = all-of (Limits limit steps) (limits (UpTo low) _⊓_ ed 𝟎 ∞ limit steps admitted h)
-      where
-        all-of : (ls : List Float) → All (Limit (UpTo low) _⊓_ ed 𝟎 ∞) ls → All (λ l. le 𝟎 l ≡ true) ls
-        all-of [] h = tt
-        all-of (l ∷ ls) h = (from-zero low l (h .0 .0) (h .0 .1), all-of ls (h .1))
+    limits-admitted steps h = all-admitted (Limits limit steps) (limits (UpTo low) _⊓_ ed 𝟎 ∞ limit steps admitted h)
+
+    -- and so where the running least is handed on
+    pub handed-limits-admitted : (steps : List (Float → Float)) → All (Shortens low _⊓_ ed) steps → All (λ l. le 𝟎 l ≡ true) (LeastLimits _⊓_ limit steps)
+    handed-limits-admitted steps h = all-admitted (LeastLimits _⊓_ limit steps) (handed-limits (UpTo low) _⊓_ ed 𝟎 ∞ limit steps admitted h)
 
     -- a cone's step lies between 0 and its limit
     pub between : (step : Float → Float) → Shortens low _⊓_ ed step → (le 𝟎 (step limit) ≡ true) × (le (step limit) limit ≡ true)

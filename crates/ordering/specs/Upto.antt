@@ -25,6 +25,11 @@ module _ {A : Type 0} (_⊓_ : A → A → A) where
   Handed running [] = running
   Handed running (step ∷ steps) = Handed (running ⊓ step running) steps
 
+  -- the limits that the steps are then called with
+  abbrev pub LeastLimits : A → List (A → A) → List A
+  LeastLimits running [] = []
+  LeastLimits running (step ∷ steps) = running ∷ LeastLimits (running ⊓ step running) steps
+
   -- the step over a list, from each cone's own step (its answer by its limit): each gets the caller's limit, and the least is the answer
   abbrev pub ListStep : A → List (A → A) → A
   ListStep limit steps = Over limit (map (λ step. step limit) steps)

@@ -2,14 +2,14 @@
 use Prim.Native.Nat.{ℕ, _≤_}
 use native.Mathlib.Omega.{arith}
 use mathlib.Core.Path.{_≡_, ap, _∙_}
-use mathlib.Core.List.{List, [], _∷_, map}
+use mathlib.Core.List.{List}
 use lib.ListN.{length}
 use lib.Ieee.{Float}
-use Rattle.answers.specs.Refusal.{Same}
+use Rattle.answers.proofs.Laws.{Long}
 use Rattle.soc_units.proofs.Laws.{length-unit-shift, length-unit-vector}
 use Rattle.soc_identity.proofs.Laws.{lengths-identity}
 use Rattle.soc_scaling.proofs.Laws.{lengths-update-scaling}
-use Rattle.soc_blocks.specs.Block.{BlockLength}
+use Rattle.answers.specs.Refusal.{BlockLength}
 use Rattle.soc_blocks.proofs.Laws.{hs-long}
 use Rattle.soc_products.proofs.Laws.{length-mul-w, length-mul-winv}
 use Rattle.soc_mul_hs.proofs.Laws.{length-mul-hs}
@@ -24,7 +24,6 @@ use Rattle.nn_mul_hs.proofs.Laws as times
 use Rattle.nn_offset.proofs.Laws as moved
 use Rattle.nn_jordan.proofs.Laws as jordan
 use Rattle.nn_inverse.proofs.Laws as inverse
-use Rattle.symmetric_common.specs.Combined.{CombinedShift, NonnegCombinedShift}
 use Rattle.symmetric_common.proofs.Laws.{lengths-combined, lengths-nonneg-combined}
 use Rattle.conelist.specs.declared.Kind.{Kind}
 use Rattle.conelist.specs.declared.Kind.the-variants.{Nonnegative, SecondOrder}
@@ -55,20 +54,20 @@ unit-vector (Nonnegative n) m h e = unit.length-unit m ∙ e
 unit-vector (SecondOrder n) m h e = length-unit-vector m (omega arith) ∙ e
 
 pub identity : (kind : Kind) (w u v : List Float) (η d : Float) → LeastDim kind ≤ Dim kind → length w ≡ Dim kind → length u ≡ Dim kind → length v ≡ Dim kind
-    → map length (KindIdentity kind w u v η d) ≡ Dim kind ∷ Dim kind ∷ Dim kind ∷ 1 ∷ 1 ∷ []
+    → Long (Dim kind) 3 2 (KindIdentity kind w u v η d)
 unfolding KindIdentity
-identity (Nonnegative n) w u v η d h of-w of-u of-v = rw (unit.length-unit, of-w, of-u, of-v)
+identity (Nonnegative n) w u v η d h of-w of-u of-v = (unit.length-unit (length w) ∙ of-w, (of-u, (of-v, (tt, (tt, tt)))))
 identity (SecondOrder n) w u v η d h of-w of-u of-v = lengths-identity n (some h) w u v d of-w of-u of-v
 
 pub scaling : (kind : Kind) (s z w lambda u v : List Float) (η d : Float) → LeastDim kind ≤ Dim kind → length s ≡ Dim kind → length z ≡ Dim kind
     → length w ≡ Dim kind → length lambda ≡ Dim kind → length u ≡ Dim kind → length v ≡ Dim kind
-    → map length (KindScaling kind s z w lambda u v η d .news) ≡ Dim kind ∷ Dim kind ∷ Dim kind ∷ Dim kind ∷ 1 ∷ 1 ∷ []
+    → Long (Dim kind) 4 2 (KindScaling kind s z w lambda u v η d .news)
 unfolding KindScaling
-scaling (Nonnegative n) s z w lambda u v η d h of-s of-z of-w of-lambda of-u of-v = rw (scale.length-w, scale.length-lambda, of-s, of-u, of-v)
+scaling (Nonnegative n) s z w lambda u v η d h of-s of-z of-w of-lambda of-u of-v = (rw (scale.length-w, of-s), (rw (scale.length-lambda, of-s), (of-u, (of-v, (tt, (tt, tt))))))
 scaling (SecondOrder n) s z w lambda u v η d h of-s of-z of-w of-lambda of-u of-v = lengths-update-scaling n (some h) s z w lambda u v η d of-s of-z of-w of-lambda of-u of-v
 
 pub hs : (kind : Kind) (w : List Float) (η d : Float) → length w ≡ Dim kind → length (KindHs kind w η d) ≡ BlockDim kind
-unfolding KindHs BlockLength
+unfolding KindHs
 hs (Nonnegative n) w η d of-w = block.length-hs w ∙ of-w
 hs (SecondOrder n) w η d of-w = hs-long w η d ∙ ap BlockLength of-w
 
@@ -82,14 +81,11 @@ unfolding KindAffineDs
 affine-ds (Nonnegative n) lambda h of-lambda = jordan.length-affine-ds lambda ∙ of-lambda
 affine-ds (SecondOrder n) lambda h of-lambda = length-circ lambda lambda (some h) of-lambda
 
-three : {n a b c : ℕ} → Same n (a ∷ b ∷ c ∷ []) → a ∷ b ∷ c ∷ [] ≡ n ∷ n ∷ n ∷ []
-three e = rw (e .0, e .1 .0, e .1 .1 .0)
-
 pub combined : (kind : Kind) (step_z step_s : List Float) (σμ : Float) (w : List Float) (η : Float) → LeastDim kind ≤ Dim kind → length step_z ≡ Dim kind → length step_s ≡ Dim kind
-    → map length (KindCombined kind step_z step_s σμ w η) ≡ Dim kind ∷ Dim kind ∷ Dim kind ∷ []
-unfolding KindCombined CombinedShift NonnegCombinedShift
-combined (Nonnegative n) step_z step_s σμ w η h of-z of-s = three (lengths-nonneg-combined step_z step_s σμ w of-z of-s)
-combined (SecondOrder n) step_z step_s σμ w η h of-z of-s = three (lengths-combined step_z step_s σμ w η (some h) of-z of-s)
+    → Long (Dim kind) 3 0 (KindCombined kind step_z step_s σμ w η)
+unfolding KindCombined
+combined (Nonnegative n) step_z step_s σμ w η h of-z of-s = lengths-nonneg-combined step_z step_s σμ w of-z of-s
+combined (SecondOrder n) step_z step_s σμ w η h of-z of-s = lengths-combined step_z step_s σμ w η (some h) of-z of-s
 
 pub offset : (kind : Kind) (ds z w lambda : List Float) (η : Float) → LeastDim kind ≤ Dim kind → length ds ≡ Dim kind → length z ≡ Dim kind → length (KindOffset kind ds z w lambda η) ≡ Dim kind
 unfolding KindOffset

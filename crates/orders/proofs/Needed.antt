@@ -18,7 +18,7 @@ use Rattle.conelist.specs.declared.Cone.{Cone}
 use Rattle.conelist.specs.Layout.{Part}
 use Rattle.list_step.specs.Step.{KindStepBy}
 use Rattle.whole_step.specs.List.{SideStep}
-use Rattle.orders.specs.Sides.{InOrder, HandedStep, PassedStep, PassedLimits}
+use Rattle.orders.specs.Sides.{InOrder, HandedStep, HandedLimits, PassedStep, PassedLimits}
 
 -- a nonnegative cone of one entry, and behind it a second-order cone of two
 abbrev pub cones : List Cone
@@ -35,14 +35,15 @@ abbrev pub limit : Float
 limit = near 1 1
 
 -- the list's step is −1. With each answer handed on, the second cone gets the limit −1, which the call refuses (6), and its rule answers 0; −1
--- again where the least of limit and answer is taken
-pub needed : (SideStep Least cones along point limit ≡ minus 1 1)
-    × (PassedStep cones along point (InOrder cones) limit ≡ near 0 1)
-    × (HandedStep cones along point (InOrder cones) limit ≡ minus 1 1)
-    × (eq (PassedStep cones along point (InOrder cones) limit) (SideStep Least cones along point limit) ≡ false)
-    × (map BadLimit (PassedLimits cones along point (InOrder cones) limit) ≡ 0 ∷ 6 ∷ [])
+-- again where the least of limit and answer is taken, but the limit is refused there too
+pub needed : (SideStep Least cones point along limit ≡ minus 1 1)
+    × (PassedStep cones point along (InOrder cones) limit ≡ near 0 1)
+    × (HandedStep cones point along (InOrder cones) limit ≡ minus 1 1)
+    × (eq (PassedStep cones point along (InOrder cones) limit) (SideStep Least cones point along limit) ≡ false)
+    × (map BadLimit (PassedLimits cones point along (InOrder cones) limit) ≡ 0 ∷ 6 ∷ [])
+    × (map BadLimit (HandedLimits cones point along (InOrder cones) limit) ≡ 0 ∷ 6 ∷ [])
 unfolding Each Part KindStepBy NonnegStep SocStepBy Branches Roots ZeroCurvature Lowered Turn Forward Residual Least Greatest Picked Root Fold Dot BadLimit round ofBits lt le eq isNan add sub mul div neg
-needed = (refl, refl, refl, refl, refl)
+needed = (refl, refl, refl, refl, refl, refl)
 
 -- limits that are zero or more, and one that is not: +0, −0, infinity; NaN
 pub edges : map (le 𝟎) (𝟎 ∷ neg 𝟎 ∷ ∞ ∷ nan ∷ []) ≡ true ∷ true ∷ true ∷ false ∷ []

@@ -1,7 +1,7 @@
 -- From a function's contract to `Regs.antt`'s `body`: the parameters' machine values are written out, and what is left is between the contract's `pre`, the computed code and the contract's `post`.
 --     Known R          of a type: its one machine value as a function of the denotation, that its relation tells it, and that it is of the MIR type.        known-uint, known-slice, .. known-struct, known-enum      of each type
 --     Fit, Main        what `proved` asks: `λ κs a t. t` shows the first, and the second is the entailment  pre ⊢ body .. post
---     proved           a function's theorem, at its routine.        proved-walk   the same from a walk of its MIR, where that is not computed
+--     proved           a function's theorem, at its routine.        proved-lending   the same of a function that lends a local
 --     ends             how a proof ends: at a result r and last values ws
 --     calls            a call of `exec`, by the callee's theorem: what is held beside stays, and the result's machine value is written out
 --     reads, checks, branch-yes, branch-no     a read behind a pointer, a test of a type, and a branch whose test is known
@@ -21,7 +21,7 @@ use base.Logic.{SProp, ent, sep, ex, guard, guardI, wand, via, comm∗, monoL, w
 use base.Fml.{Lft}
 use prog.Routine.{Name, Env}
 use prog.Model.{Model}
-use prog.Wp.{Heap, Calls, WpFn, Closed, Tables, read, branch}
+use prog.Wp.{Heap, Calls, WpFn, Closed, read, branch}
 use ghost.Atoms.{Atoms, sem}
 use sound.WpLaws.{FmC, fmOf}
 use contract.Lifetimes.{Lfts, Shares, AllOutlive}
@@ -47,7 +47,7 @@ use denote.Triple.Clauses.{Clauses, Ended, Lasts, atExit, lasts, closing}
 use denote.Triple.Statement.{Triple}
 use denote.Triple.Spec.{Spec, tripleOf}
 use denote.Triple.Table.{entered}
-use Rattle.registers.proofs.Regs.{check, checkI, reading, body, TypedFn, runs-body}
+use Rattle.registers.proofs.Regs.{check, checkI, reading, body, TypedFn, runs-body, Lender, bodyOf, lending, runs-lending}
 
 module _ {M : Type 1} (𝓤 : URA M) (H : Heap 𝓤) (A : Atoms 𝓤) where
   pub record Known (R : RattleType) : Type 1 where
@@ -111,17 +111,15 @@ module _ {M : Type 1} (𝓤 : URA M) (H : Heap 𝓤) (A : Atoms 𝓤) where
     abbrev pub Fit : Fn → Type 0
     Fit f = (κs : Lfts (S .lifetimes)) (a : Args S κs) → Typed (mirs (typesAt (S .params) κs)) (flat (typesAt (S .params) κs) (spelled κs a)) → TypedFn 𝓤 H (f .locals) (flat (typesAt (S .params) κs) (spelled κs a))
 
-    -- what is left to show
-    abbrev pub Main : Spec 𝓤 S → Fn → Calls 𝓤 H → Type 1
-    Main c f C = (κs : Lfts (S .lifetimes)) (qs : Shares (S .lifetimes)) (bounds : AllOutlive (S .lifetimes) (S .outlives) κs) (a : Args S κs) (g : c κs a .ghost)
-        → Are (typesAt (S .params) κs) (Ises (typesAt (S .params) κs)) a (spelled κs a)
-        → ent 𝓤 (tripleOf 𝓤 H A S c .pre ((κs, qs, bounds, a, spelled κs a), g)) (body 𝓤 H C f (flat (typesAt (S .params) κs) (spelled κs a)) (tripleOf 𝓤 H A S c .post ((κs, qs, bounds, a, spelled κs a), g)))
-
-    -- the same of any run
+    -- what is left to show, of any run
     abbrev pub Runs : Spec 𝓤 S → Fun 𝓤 → Type 1
     Runs c run = (κs : Lfts (S .lifetimes)) (qs : Shares (S .lifetimes)) (bounds : AllOutlive (S .lifetimes) (S .outlives) κs) (a : Args S κs) (g : c κs a .ghost)
         → Are (typesAt (S .params) κs) (Ises (typesAt (S .params) κs)) a (spelled κs a)
         → ent 𝓤 (tripleOf 𝓤 H A S c .pre ((κs, qs, bounds, a, spelled κs a), g)) (run (flat (typesAt (S .params) κs) (spelled κs a)) (tripleOf 𝓤 H A S c .post ((κs, qs, bounds, a, spelled κs a), g)))
+
+    -- and of the computed code
+    abbrev pub Main : Spec 𝓤 S → Fn → Calls 𝓤 H → Type 1
+    Main c f C = Runs c (body 𝓤 H C f)
 
     pub meets-run : (c : Spec 𝓤 S) (run : Fun 𝓤) → Runs c run → Triple 𝓤 run (tripleOf 𝓤 H A S c)
     meets-run c run k y =
@@ -134,10 +132,12 @@ module _ {M : Type 1} (𝓤 : URA M) (H : Heap 𝓤) (A : Atoms 𝓤) where
         (comm∗ 𝓤 (wand 𝓤 R (Q (y .0 .4))) R))
         (apply∗ 𝓤 R (Q (y .0 .4)))
 
-    pub meets : (W : Given 𝓤 H A) (c : Spec 𝓤 S) (f : Fn) (𝓣 : Tables 𝓤 H) → Fit f → Main c f (𝓣 .C) → Triple 𝓤 (WpFn 𝓤 H (𝓣 .C) (𝓣 .Λ) f) (tripleOf 𝓤 H A S c)
-    meets W c f 𝓣 fits k = meets-run c (WpFn 𝓤 H (𝓣 .C) (𝓣 .Λ) f) (λ κs qs bounds a g are.
-        via 𝓤 (body 𝓤 H (𝓣 .C) f (flat (typesAt (S .params) κs) (spelled κs a)) (tripleOf 𝓤 H A S c .post ((κs, qs, bounds, a, spelled κs a), g))) (k κs qs bounds a g are)
-        (runs-body 𝓤 H A W 𝓣 (flat (typesAt (S .params) κs) (spelled κs a)) (tripleOf 𝓤 H A S c .post ((κs, qs, bounds, a, spelled κs a), g)) f (fits κs a (typedOf (typesAt (S .params) κs) (ks κs) a are))))
+    -- of a code that the function's run follows from
+    pub meets : (W : Given 𝓤 H A) (c : Spec 𝓤 S) (f : Fn) (run fun : Fun 𝓤) → ((vs : List Val) (K : Val → SProp 𝓤) → TypedFn 𝓤 H (f .locals) vs → ent 𝓤 (run vs K) (fun vs K)) → Fit f → Runs c run → Triple 𝓤 fun (tripleOf 𝓤 H A S c)
+    meets W c f run fun sound fits k = meets-run c fun (λ κs qs bounds a g are.
+        let vs : List Val = flat (typesAt (S .params) κs) (spelled κs a) in
+        let K : Val → SProp 𝓤 = tripleOf 𝓤 H A S c .post ((κs, qs, bounds, a, spelled κs a), g) in
+        via 𝓤 (run vs K) (k κs qs bounds a g are) (sound vs K (fits κs a (typedOf (typesAt (S .params) κs) (ks κs) a are))))
 
 read-in : {M : Type 1} (𝓤 : URA M) (H : Heap 𝓤) (τ : Ty) (b o : ℕ) (Kt : Val → SProp 𝓤) → ent 𝓤 (read 𝓤 H τ b o Kt) (reading 𝓤 H τ b o Kt)
 unfolding reading
@@ -180,18 +180,25 @@ module _ {M : Type 1} (𝓤 : URA M) (H : Heap 𝓤) (A : Atoms 𝓤) (W : Given
 
 -- ---- a function's theorem, at its routine
 module _ {M : Type 1} (𝓤 : URA M) (H : Heap 𝓤) (𝓜 : Model 𝓤 H) (𝓖 : GhostRules 𝓤 H) (𝓡 : Running 𝓤 H 𝓜) where
-  pub proved : (S : Signature) (c : Spec 𝓤 S) (γ : Env) (k : Name) (f : Fn) → Closed 𝓤 H (tables 𝓤 H 𝓜 𝓡 γ .C) (tables 𝓤 H 𝓜 𝓡 γ .Λ) k f → (ks : (κs : Lfts (S .lifetimes)) → Knowns 𝓤 H (𝓖 .A) (typesAt (S .params) κs))
-      → Fit 𝓤 H (𝓖 .A) S ks f → (FmC 𝓤 H (givenOf 𝓤 H 𝓜 𝓖 .laws) (tables 𝓤 H 𝓜 𝓡 γ .C) → Main 𝓤 H (𝓖 .A) S ks c f (tables 𝓤 H 𝓜 𝓡 γ .C)) → Triple 𝓤 (𝓡 .run (γ k)) (tripleOf 𝓤 H (𝓖 .A) S c)
-  unfolding tablesOf
-  proved S c γ k f closed ks fits main =
-      entered 𝓤 H (tripleOf 𝓤 H (𝓖 .A) S c) (tables 𝓤 H 𝓜 𝓡 γ .C) (tables 𝓤 H 𝓜 𝓡 γ .Λ) k f closed (meets 𝓤 H (𝓖 .A) S ks (givenOf 𝓤 H 𝓜 𝓖) c f (tablesOf 𝓤 H 𝓜 (tables 𝓤 H 𝓜 𝓡 γ)) fits (main (fmOf 𝓤 H (givenOf 𝓤 H 𝓜 𝓖 .laws) (tablesOf 𝓤 H 𝓜 (tables 𝓤 H 𝓜 𝓡 γ)))))
+  module _ (S : Signature) (c : Spec 𝓤 S) (γ : Env) (k : Name) (f : Fn) (closed : Closed 𝓤 H (tables 𝓤 H 𝓜 𝓡 γ .C) (tables 𝓤 H 𝓜 𝓡 γ .Λ) k f) (ks : (κs : Lfts (S .lifetimes)) → Knowns 𝓤 H (𝓖 .A) (typesAt (S .params) κs)) (fits : Fit 𝓤 H (𝓖 .A) S ks f) where
+    abbrev W : Given 𝓤 H (𝓖 .A)
+    W = givenOf 𝓤 H 𝓜 𝓖
 
-  -- where the MIR is not computed: by a walk of it
-  pub proved-walk : (S : Signature) (c : Spec 𝓤 S) (γ : Env) (k : Name) (f : Fn) → Closed 𝓤 H (tables 𝓤 H 𝓜 𝓡 γ .C) (tables 𝓤 H 𝓜 𝓡 γ .Λ) k f → (ks : (κs : Lfts (S .lifetimes)) → Knowns 𝓤 H (𝓖 .A) (typesAt (S .params) κs))
-      → (FmC 𝓤 H (givenOf 𝓤 H 𝓜 𝓖 .laws) (tables 𝓤 H 𝓜 𝓡 γ .C) → Runs 𝓤 H (𝓖 .A) S ks c (WpFn 𝓤 H (tables 𝓤 H 𝓜 𝓡 γ .C) (tables 𝓤 H 𝓜 𝓡 γ .Λ) f)) → Triple 𝓤 (𝓡 .run (γ k)) (tripleOf 𝓤 H (𝓖 .A) S c)
-  unfolding tablesOf
-  proved-walk S c γ k f closed ks walk =
-      entered 𝓤 H (tripleOf 𝓤 H (𝓖 .A) S c) (tables 𝓤 H 𝓜 𝓡 γ .C) (tables 𝓤 H 𝓜 𝓡 γ .Λ) k f closed (meets-run 𝓤 H (𝓖 .A) S ks c (WpFn 𝓤 H (tables 𝓤 H 𝓜 𝓡 γ .C) (tables 𝓤 H 𝓜 𝓡 γ .Λ) f) (walk (fmOf 𝓤 H (givenOf 𝓤 H 𝓜 𝓖 .laws) (tablesOf 𝓤 H 𝓜 (tables 𝓤 H 𝓜 𝓡 γ)))))
+    abbrev C : Calls 𝓤 H
+    C = tables 𝓤 H 𝓜 𝓡 γ .C
+
+    by-code : (run : Fun 𝓤) → ((vs : List Val) (K : Val → SProp 𝓤) → TypedFn 𝓤 H (f .locals) vs → ent 𝓤 (run vs K) (WpFn 𝓤 H C (tables 𝓤 H 𝓜 𝓡 γ .Λ) f vs K)) → (FmC 𝓤 H (W .laws) C → Runs 𝓤 H (𝓖 .A) S ks c run) → Triple 𝓤 (𝓡 .run (γ k)) (tripleOf 𝓤 H (𝓖 .A) S c)
+    unfolding tablesOf
+    by-code run sound main = entered 𝓤 H (tripleOf 𝓤 H (𝓖 .A) S c) C (tables 𝓤 H 𝓜 𝓡 γ .Λ) k f closed (meets 𝓤 H (𝓖 .A) S ks W c f run _ sound fits (main (fmOf 𝓤 H (W .laws) (tablesOf 𝓤 H 𝓜 (tables 𝓤 H 𝓜 𝓡 γ)))))
+
+    pub proved : (FmC 𝓤 H (W .laws) C → Main 𝓤 H (𝓖 .A) S ks c f C) → Triple 𝓤 (𝓡 .run (γ k)) (tripleOf 𝓤 H (𝓖 .A) S c)
+    unfolding tablesOf
+    proved = by-code (body 𝓤 H C f) (λ vs K t. runs-body 𝓤 H (𝓖 .A) W (tablesOf 𝓤 H 𝓜 (tables 𝓤 H 𝓜 𝓡 γ)) vs K f t)
+
+    -- where a local is lent
+    pub proved-lending : (L : Lender) → f .body ≡ bodyOf L → (FmC 𝓤 H (W .laws) C → Runs 𝓤 H (𝓖 .A) S ks c (lending 𝓤 H C (f .locals) L)) → Triple 𝓤 (𝓡 .run (γ k)) (tripleOf 𝓤 H (𝓖 .A) S c)
+    unfolding tablesOf
+    proved-lending L e = by-code (lending 𝓤 H C (f .locals) L) (λ vs K t. runs-lending 𝓤 H (𝓖 .A) W (tablesOf 𝓤 H 𝓜 (tables 𝓤 H 𝓜 𝓡 γ)) vs K f L e t)
 
 -- ---- a call, as `Regs.antt` has it: the callee's theorem, at arguments of the caller's choice. Whatever else is held, R, stays. The result's machine value is written out
 module _ {M : Type 1} (𝓤 : URA M) (H : Heap 𝓤) (A : Atoms 𝓤) (W : Given 𝓤 H A) (C : Calls 𝓤 H) (fm : FmC 𝓤 H (W .laws) C) (f : Name) (E : Ended) (c : Clauses 𝓤 E) (met : Triple 𝓤 (C f) (tripleOf 𝓤 H A (E .signature) (closing 𝓤 H A E c)))

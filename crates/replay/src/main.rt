@@ -68,9 +68,9 @@ fn numbers(words: &[u64], had: Cut, h: Head) -> u8 {
     }
     let call = h.call;
     match call {
-        0 => told::value(root::sqrt(h.a)),
-        1 => told::value(extrema::least(h.a, h.b)),
-        _ => told::value(extrema::greatest(h.a, h.b)),
+        0 => case_answers::value(root::sqrt(h.a)),
+        1 => case_answers::value(extrema::least(h.a, h.b)),
+        _ => case_answers::value(extrema::greatest(h.a, h.b)),
     }
     show::newline();
     0
@@ -98,11 +98,11 @@ fn list_step(words: &[u64], had: Cut, h: Head, row: &[[usize; 3]]) -> u8 {
     if bad != 0 {
         return bad;
     }
-    told::steps(records_step::list_step_length(row, dz, ds, z, s, h.a));
-    told::contents(dz);
-    told::contents(ds);
-    told::contents(z);
-    told::contents(s);
+    case_answers::steps(records_step::list_step_length(row, dz, ds, z, s, h.a));
+    case_answers::contents(dz);
+    case_answers::contents(ds);
+    case_answers::contents(z);
+    case_answers::contents(s);
     show::newline();
     0
 }
@@ -137,7 +137,7 @@ fn case(words: &[u64]) -> u8 {
     };
     let rest = &words[5..];
     let mut held = [[0; 3]; 260];
-    let cut = case_rows::row(words[4] as usize, rest, &mut held);
+    let cut = case_rows::list_of(words[4] as usize, rest, &mut held);
     if cut.fault != 0 {
         return cut.fault;
     }

@@ -6,24 +6,24 @@ use conelist::Place;
 fn reads(h: Head, p: Place, z: &[f64]) {
     let call = h.call;
     match call {
-        0x100 => told::margins(soc_units::soc_margins(z)),
-        0x111 => told::stands(standing::soc_standing(z)),
-        0x113 => told::residual(soc_residual::soc_residual(z)),
-        0x115 => told::residual(soc_residual::sqrt_soc_residual(z)),
-        0x200 => told::margins(nn_units::nn_margins(z)),
-        0x211 => told::stands(standing::nn_standing(z)),
-        0x300 => told::margins(list_margins::margins_at(p, z)),
-        _ => told::stands(list_standing::standing_at(p, z)),
+        0x100 => case_answers::margins(soc_units::soc_margins(z)),
+        0x111 => case_answers::stands(standing::soc_standing(z)),
+        0x113 => case_answers::residual(soc_residual::soc_residual(z)),
+        0x115 => case_answers::residual(soc_residual::sqrt_soc_residual(z)),
+        0x200 => case_answers::margins(nn_units::nn_margins(z)),
+        0x211 => case_answers::stands(standing::nn_standing(z)),
+        0x300 => case_answers::margins(list_margins::margins_at(p, z)),
+        _ => case_answers::stands(list_standing::standing_at(p, z)),
     }
 }
 
 fn writes(h: Head, p: Place, z: &mut [f64]) {
     let call = h.call;
     match call {
-        0x101 => told::answer(soc_units::soc_scaled_unit_shift(z, h.a)),
-        0x201 => told::answer(nn_units::nn_scaled_unit_shift(z, h.a)),
-        0x203 => told::answer(nn_identity::nn_set_identity_scaling(z)),
-        _ => told::answer(list_units::scaled_unit_shift_at(p, z, h.a)),
+        0x101 => case_answers::answer(soc_units::soc_scaled_unit_shift(z, h.a)),
+        0x201 => case_answers::answer(nn_units::nn_scaled_unit_shift(z, h.a)),
+        0x203 => case_answers::answer(nn_identity::nn_set_identity_scaling(z)),
+        _ => case_answers::answer(list_units::scaled_unit_shift_at(p, z, h.a)),
     }
 }
 
@@ -37,7 +37,7 @@ fn call(h: Head, p: Place, x: &mut [f64]) {
 
 fn made(h: Head, p: Place, x: &mut [f64]) -> u8 {
     call(h, p, x);
-    told::contents(x);
+    case_answers::contents(x);
     show::newline();
     0
 }

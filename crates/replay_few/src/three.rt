@@ -6,31 +6,31 @@ use conelist::Place;
 fn nonnegative(h: Head, x: &mut [f64], y: &[f64], z: &[f64]) {
     let call = h.call;
     match call {
-        0x207 => told::answer(nn_mul_hs::nn_mul_hs(x, y, z)),
-        0x20a => told::answer(nn_offset::nn_ds_from_dz_offset(x, y, z)),
-        0x20c => told::answer(nn_products::nn_mul_w(x, y, h.a, h.b, z)),
-        0x20d => told::answer(nn_products::nn_mul_winv(x, y, h.a, h.b, z)),
-        0x20e => told::answer(nn_jordan::nn_circ_op(x, y, z)),
-        0x20f => told::answer(nn_inverse::nn_inv_circ_op(x, y, z)),
-        _ => told::answer(nn_inverse::nn_lambda_inv_circ_op(x, y, z)),
+        0x207 => case_answers::answer(nn_mul_hs::nn_mul_hs(x, y, z)),
+        0x20a => case_answers::answer(nn_offset::nn_ds_from_dz_offset(x, y, z)),
+        0x20c => case_answers::answer(nn_products::nn_mul_w(x, y, h.a, h.b, z)),
+        0x20d => case_answers::answer(nn_products::nn_mul_winv(x, y, h.a, h.b, z)),
+        0x20e => case_answers::answer(nn_jordan::nn_circ_op(x, y, z)),
+        0x20f => case_answers::answer(nn_inverse::nn_inv_circ_op(x, y, z)),
+        _ => case_answers::answer(nn_inverse::nn_lambda_inv_circ_op(x, y, z)),
     }
 }
 
 fn second_order(h: Head, x: &mut [f64], y: &[f64], z: &[f64]) {
     let call = h.call;
     match call {
-        0x10e => told::answer(soc_jordan::soc_circ_op(x, y, z)),
-        0x10f => told::answer(soc_inverse::soc_inv_circ_op(x, y, z)),
-        _ => told::answer(soc_inverse::soc_lambda_inv_circ_op(x, y, z)),
+        0x10e => case_answers::answer(soc_jordan::soc_circ_op(x, y, z)),
+        0x10f => case_answers::answer(soc_inverse::soc_inv_circ_op(x, y, z)),
+        _ => case_answers::answer(soc_inverse::soc_lambda_inv_circ_op(x, y, z)),
     }
 }
 
 fn of_list(h: Head, p: Place, x: &mut [f64], y: &[f64], z: &[f64]) {
     let call = h.call;
     match call {
-        0x30e => told::answer(list_jordan::circ_op_at(p, x, y, z)),
-        0x30f => told::answer(list_inverse::inv_circ_op_at(p, x, y, z)),
-        _ => told::answer(list_inverse::lambda_inv_circ_op_at(p, x, y, z)),
+        0x30e => case_answers::answer(list_jordan::circ_op_at(p, x, y, z)),
+        0x30f => case_answers::answer(list_inverse::inv_circ_op_at(p, x, y, z)),
+        _ => case_answers::answer(list_inverse::lambda_inv_circ_op_at(p, x, y, z)),
     }
 }
 
@@ -44,9 +44,9 @@ fn call(h: Head, p: Place, x: &mut [f64], y: &[f64], z: &[f64]) {
 
 fn made(h: Head, p: Place, x: &mut [f64], y: &[f64], z: &[f64]) -> u8 {
     call(h, p, x, y, z);
-    told::contents(x);
-    told::contents(y);
-    told::contents(z);
+    case_answers::contents(x);
+    case_answers::contents(y);
+    case_answers::contents(z);
     show::newline();
     0
 }

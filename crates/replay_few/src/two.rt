@@ -6,29 +6,29 @@ use conelist::Place;
 fn reads(h: Head, p: Place, x: &[f64], y: &[f64]) {
     let call = h.call;
     match call {
-        0x112 => told::step(soc_step::soc_step(x, y, h.a)),
-        0x114 => told::residual(soc_residual::soc_residual_shifted(x, y, h.a)),
-        0x212 => told::step(nn_step::nn_step(x, y, h.a)),
-        _ => told::square(list_square::square_hs_at(p, x, y)),
+        0x112 => case_answers::step(soc_step::soc_step(x, y, h.a)),
+        0x114 => case_answers::residual(soc_residual::soc_residual_shifted(x, y, h.a)),
+        0x212 => case_answers::step(nn_step::nn_step(x, y, h.a)),
+        _ => case_answers::square(list_square::square_hs_at(p, x, y)),
     }
 }
 
 fn writes(h: Head, p: Place, x: &mut [f64], y: &[f64]) {
     let call = h.call;
     match call {
-        0x108 => told::answer(soc_jordan::soc_affine_ds(x, y)),
-        0x205 => told::answer(nn_blocks::nn_get_hs(x, y)),
-        0x208 => told::answer(nn_jordan::nn_affine_ds(x, y)),
-        _ => told::answer(list_jordan::affine_ds_at(p, x, y)),
+        0x108 => case_answers::answer(soc_jordan::soc_affine_ds(x, y)),
+        0x205 => case_answers::answer(nn_blocks::nn_get_hs(x, y)),
+        0x208 => case_answers::answer(nn_jordan::nn_affine_ds(x, y)),
+        _ => case_answers::answer(list_jordan::affine_ds_at(p, x, y)),
     }
 }
 
 fn writes_both(h: Head, p: Place, x: &mut [f64], y: &mut [f64]) {
     let call = h.call;
     match call {
-        0x102 => told::answer(soc_units::soc_unit_initialization(x, y)),
-        0x202 => told::answer(nn_units::nn_unit_initialization(x, y)),
-        _ => told::answer(list_units::unit_initialization_at(p, x, y)),
+        0x102 => case_answers::answer(soc_units::soc_unit_initialization(x, y)),
+        0x202 => case_answers::answer(nn_units::nn_unit_initialization(x, y)),
+        _ => case_answers::answer(list_units::unit_initialization_at(p, x, y)),
     }
 }
 
@@ -36,7 +36,7 @@ fn square(w: &[f64], eta: &[f64]) -> u8 {
     if eta.len() != 1 {
         return 10;
     }
-    told::square(soc_square::soc_square_hs(w, &eta[0]));
+    case_answers::square(soc_square::soc_square_hs(w, &eta[0]));
     0
 }
 
@@ -54,8 +54,8 @@ fn call(h: Head, p: Place, x: &mut [f64], y: &mut [f64]) -> u8 {
 fn made(h: Head, p: Place, x: &mut [f64], y: &mut [f64]) -> u8 {
     let fault = call(h, p, x, y);
     if fault == 0 {
-        told::contents(x);
-        told::contents(y);
+        case_answers::contents(x);
+        case_answers::contents(y);
         show::newline();
     }
     fault

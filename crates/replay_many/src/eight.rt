@@ -19,7 +19,16 @@ fn update(
     if d.len() != 1 {
         return 10;
     }
-    told::scaling(soc_scaling::soc_update_scaling(s, z, w, lambda, u, v, &mut eta[0], &mut d[0]));
+    case_answers::scaling(soc_scaling::soc_update_scaling(
+        s,
+        z,
+        w,
+        lambda,
+        u,
+        v,
+        &mut eta[0],
+        &mut d[0],
+    ));
     0
 }
 
@@ -38,7 +47,7 @@ fn scaling(
     if h.call == 0x104 {
         return update(s, z, w, lambda, u, v, eta, d);
     }
-    told::scaling(list_scaling::update_scaling_at(p, s, z, w, lambda, u, v, eta, d));
+    case_answers::scaling(list_scaling::update_scaling_at(p, s, z, w, lambda, u, v, eta, d));
     0
 }
 
@@ -56,14 +65,14 @@ fn made(
 ) -> u8 {
     let fault = scaling(h, p, x0, x1, x2, x3, x4, x5, x6, x7);
     if fault == 0 {
-        told::contents(x0);
-        told::contents(x1);
-        told::contents(x2);
-        told::contents(x3);
-        told::contents(x4);
-        told::contents(x5);
-        told::contents(x6);
-        told::contents(x7);
+        case_answers::contents(x0);
+        case_answers::contents(x1);
+        case_answers::contents(x2);
+        case_answers::contents(x3);
+        case_answers::contents(x4);
+        case_answers::contents(x5);
+        case_answers::contents(x6);
+        case_answers::contents(x7);
         show::newline();
     }
     fault

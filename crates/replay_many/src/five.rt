@@ -10,7 +10,7 @@ fn identity(w: &mut [f64], u: &mut [f64], v: &mut [f64], eta: &mut [f64], d: &mu
     if d.len() != 1 {
         return 10;
     }
-    told::answer(soc_identity::soc_set_identity_scaling(w, u, v, &mut eta[0], &mut d[0]));
+    case_answers::answer(soc_identity::soc_set_identity_scaling(w, u, v, &mut eta[0], &mut d[0]));
     0
 }
 
@@ -25,7 +25,7 @@ fn combined(
     if eta.len() != 1 {
         return 10;
     }
-    told::answer(symmetric_common::soc_combined_ds_shift(
+    case_answers::answer(symmetric_common::soc_combined_ds_shift(
         shift,
         step_z,
         step_s,
@@ -49,8 +49,15 @@ fn call_on_five(
     match call {
         0x103 => return identity(x0, x1, x2, x3, x4),
         0x109 => return combined(x0, x1, x2, h.a, x3, x4),
-        0x303 => told::answer(list_identity::set_identity_scaling_at(p, x0, x1, x2, x3, x4)),
-        _ => told::answer(list_combined::combined_ds_shift_at(p, x0, x1, x2, h.a, x3, x4)),
+        0x303 => case_answers::answer(list_identity::set_identity_scaling_at(
+            p,
+            x0,
+            x1,
+            x2,
+            x3,
+            x4,
+        )),
+        _ => case_answers::answer(list_combined::combined_ds_shift_at(p, x0, x1, x2, h.a, x3, x4)),
     }
     0
 }
@@ -66,11 +73,11 @@ fn made(
 ) -> u8 {
     let fault = call_on_five(h, p, x0, x1, x2, x3, x4);
     if fault == 0 {
-        told::contents(x0);
-        told::contents(x1);
-        told::contents(x2);
-        told::contents(x3);
-        told::contents(x4);
+        case_answers::contents(x0);
+        case_answers::contents(x1);
+        case_answers::contents(x2);
+        case_answers::contents(x3);
+        case_answers::contents(x4);
         show::newline();
     }
     fault

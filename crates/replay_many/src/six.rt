@@ -14,13 +14,13 @@ fn offset(
     eta: &[f64],
 ) -> u8 {
     if h.call == 0x30a {
-        told::answer(list_offset::ds_from_dz_offset_at(p, out, ds, z, w, lambda, eta));
+        case_answers::answer(list_offset::ds_from_dz_offset_at(p, out, ds, z, w, lambda, eta));
         return 0;
     }
     if eta.len() != 1 {
         return 10;
     }
-    told::answer(soc_offset::soc_ds_from_dz_offset(out, ds, z, w, lambda, &eta[0]));
+    case_answers::answer(soc_offset::soc_ds_from_dz_offset(out, ds, z, w, lambda, &eta[0]));
     0
 }
 
@@ -36,12 +36,12 @@ fn made(
 ) -> u8 {
     let fault = offset(h, p, x0, x1, x2, x3, x4, x5);
     if fault == 0 {
-        told::contents(x0);
-        told::contents(x1);
-        told::contents(x2);
-        told::contents(x3);
-        told::contents(x4);
-        told::contents(x5);
+        case_answers::contents(x0);
+        case_answers::contents(x1);
+        case_answers::contents(x2);
+        case_answers::contents(x3);
+        case_answers::contents(x4);
+        case_answers::contents(x5);
         show::newline();
     }
     fault

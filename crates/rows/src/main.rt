@@ -9,9 +9,9 @@ use conelist::Cone;
 use conelist::Kind;
 ghost use Prim.Native.Nat.{_≤_, _+_};
 
-// ---- how an answer is told
+// ---- how an answer is written
 
-fn told(a: Answer) {
+fn say(a: Answer) {
     match a {
         Answer::Done => show::text(b"done"),
         Answer::Refused(no) => show::refused(no),
@@ -19,9 +19,9 @@ fn told(a: Answer) {
     show::newline();
 }
 
-fn told_scaling(a: Scaling) {
+fn say_scaling(a: Scaling) {
     match a {
-        Scaling::Told(t) => {
+        Scaling::Truth(t) => {
             if t {
                 show::text(b"true");
             } else {
@@ -33,7 +33,7 @@ fn told_scaling(a: Scaling) {
     show::newline();
 }
 
-fn told_steps(a: Steps) {
+fn say_steps(a: Steps) {
     match a {
         Steps::Lengths(pair) => {
             show::number(pair.z);
@@ -209,7 +209,7 @@ fn scale(of: &[u8], meant: usize, more: usize)
     let in_v = long(meant, 5, 10, more);
     let in_eta = long(meant, 6, 3, more);
     let in_d = long(meant, 7, 3, more);
-    told_scaling(list_scaling::update_scaling_at(
+    say_scaling(list_scaling::update_scaling_at(
         local_rows::place_in(ten(), 3, 1),
         &s[..in_s],
         &z[..in_z],
@@ -252,7 +252,7 @@ fn block(of: &[u8], more: usize)
     show::label(of);
     let mut hs = [0.0; 14];
     let in_hs = long(0, 0, 13, more);
-    told(list_blocks::get_hs_at(
+    say(list_blocks::get_hs_at(
         local_rows::place_in(ten(), 3, 1),
         &mut hs[..in_hs],
         &[1.0; 10],
@@ -303,14 +303,7 @@ fn step(of: &[u8], limit: f64) {
     show::label(of);
     let x = [4.0, 9.0, 5.0, 0.0];
     let y = [-1.0, -3.0, 0.0, 1.0];
-    told_steps(list_step::step_length_at(
-        local_rows::place_in(four(), 3, 1),
-        &y,
-        &y,
-        &x,
-        &x,
-        limit,
-    ));
+    say_steps(list_step::step_length_at(local_rows::place_in(four(), 3, 1), &y, &y, &x, &x, limit));
 }
 
 fn steps() {
@@ -326,7 +319,7 @@ fn whole(of: &[u8], list: [Cone; 257], cones: usize, limit: f64) {
     show::label(of);
     let x = [4.0, 9.0, 5.0, 0.0];
     let y = [-1.0, -3.0, 0.0, 1.0];
-    told_steps(local_rows::list_step_in(list, cones, &y, &[0.0; 4], &x, &x, limit));
+    say_steps(local_rows::list_step_in(list, cones, &y, &[0.0; 4], &x, &x, limit));
 }
 
 fn wholes() {
@@ -341,7 +334,7 @@ fn wholes() {
 fn nothing() {
     show::label(b"list step of no cones, limit 7");
     let none: [f64; 0] = [];
-    told_steps(local_rows::list_step_in(empty(), 0, &none, &none, &none, &none, 7.0));
+    say_steps(local_rows::list_step_in(empty(), 0, &none, &none, &none, &none, 7.0));
 }
 
 fn main() {

@@ -11,23 +11,21 @@ use lib.Ieee.{Float}
 use Rattle.vecmath.specs.Double.{_⊗_, _!_}
 use Rattle.vecmath.specs.Vector.{Constant}
 use Rattle.vecmath.proofs.Loops.{length-each}
-use Rattle.answers.specs.Refusal.{_⊳_, BadDimension, Unlike, Alike}
+use Rattle.answers.specs.Refusal.{BlockLength, _⊳_, BadDimension, Unlike, Alike}
 use Rattle.answers.proofs.Laws.{clear-both, clear-lengths, alike}
-use Rattle.soc_blocks.specs.Block.{BlockLength, SparseHs, DenseEntry, DenseHs, Hs}
+use Rattle.soc_blocks.specs.Block.{SparseHs, DenseEntry, DenseHs, Hs}
 use Rattle.soc_blocks.proofs.Columns.{columns-length, columns-at}
 
 -- ---- the block's length
 
 pub sparse-long : (n : ℕ) → 4 < n → BlockLength n ≡ n
-unfolding BlockLength
 sparse-long n h = rw (lt-ltb 4 n h)
 
 pub dense-long : (n : ℕ) → n ≤ 4 → BlockLength n ≡ n * (n + 1) / 2
-unfolding BlockLength
 dense-long n h = rw (le-ltb 4 n h)
 
 pub hs-long : (w : List Float) (η d : Float) → length (Hs w η d) ≡ BlockLength (length w)
-unfolding Hs SparseHs DenseHs Constant BlockLength
+unfolding Hs SparseHs DenseHs Constant
 hs-long w η d = go (ltb 4 (length w)) refl
   where
     go : (t : Bool) → ltb 4 (length w) ≡ t → length (Hs w η d) ≡ BlockLength (length w)

@@ -8,21 +8,21 @@ use Rattle.vecmath.specs.Double.{𝟎, 𝟏, 𝟐, ½}
 use Rattle.vecmath.specs.Vector.{Each, Constant}
 use Rattle.vecmath.proofs.Examples.{near, minus, Line, _⇒_, Right}
 use Rattle.answers.specs.Refusal.{_⊳_, BadDimension, Unlike}
-use Rattle.answers.specs.Outcome.{done, gives, refuses, Came, Call}
-use Rattle.soc_blocks.specs.Block.{BlockLength, SparseHs, Columns, DenseEntry, DenseHs, Hs, SocGetHs}
+use Rattle.answers.specs.Outcome.{done, gives, refuses, Came, Call, _⨾_}
+use Rattle.soc_blocks.specs.Block.{SparseHs, Columns, DenseEntry, DenseHs, Hs, SocGetHs}
 
 -- into a block of NaN
-abbrev block : (long : ℕ) (w : List Float) (η d : Float) → Came
+abbrev block : (long : ℕ) (w : List Float) (η d : Float) → Came 1 0
 block long w η d = SocGetHs (replicate long nan) w η d
 
-abbrev written : List Float → Came
-written hs = record { ruling = gives done; holds = hs ∷ [] }
+abbrev written : List Float → Came 1 0
+written hs = record { ruling = gives done; holds = hs ⨾ tt }
 
-abbrev refused : (k long : ℕ) → Came
-refused k long = record { ruling = refuses k; holds = replicate long nan ∷ [] }
+abbrev refused : (k long : ℕ) → Came 1 0
+refused k long = record { ruling = refuses k; holds = replicate long nan ⨾ tt }
 
 -- dense at 2, 3 and 4; sparse at 5; dimension 1, and a block of another length
-lines : List (Line Came)
+lines : List (Line (Came 1 0))
 lines =
     (block 3 (near 5 4 ∷ near 3 4 ∷ []) 𝟐 nan ⇒ written (ofBits binary64 0x4021_0000_0000_0001 ∷ near 15 2 ∷ near 17 2 ∷ []))
     ∷ (block 6 (near 3 2 ∷ minus 1 1 ∷ ½ ∷ []) 𝟐 nan ⇒ written (ofBits binary64 0x402C_0000_0000_0002 ∷ minus 12 1 ∷ near 12 1 ∷ near 6 1 ∷ minus 4 1 ∷ near 6 1 ∷ []))
@@ -33,5 +33,5 @@ lines =
     ∷ []
 
 worked : Right lines
-unfolding lines Hs SparseHs DenseHs DenseEntry Columns BlockLength Constant Each Call _⊳_ BadDimension Unlike round ofBits add sub mul
+unfolding lines Hs SparseHs DenseHs DenseEntry Columns Constant Each Call _⊳_ BadDimension Unlike round ofBits add sub mul
 worked = refl

@@ -1,21 +1,17 @@
 -- Document 01, "Second-order rules": Hs, packed; source document 000, lines 217 to 246. Assumes nothing.
-use Prim.Native.Nat.{ℕ, zero, suc, _+_, _*_, _/_}
+use Prim.Native.Nat.{ℕ, zero, suc, _+_}
 use mathlib.Core.Bool.{cond}
 use mathlib.Core.List.{List, [], _∷_, _++_}
-use lib.Dec.{ltb, eqb}
+use lib.Dec.{eqb}
 use lib.ListN.{length}
 use lib.Ieee.{Float, binary64, ofBits}
 use Rattle.vecmath.specs.Double.{_⊕_, _⊖_, _⊗_, 𝟏, 𝟐, _!_}
 use Rattle.vecmath.specs.Vector.{Each, Constant}
 use Rattle.tails.specs.Tail.{Tail}
-use Rattle.answers.specs.Refusal.{_⊳_, BadDimension, Unlike, Alike}
-use Rattle.answers.specs.Outcome.{done, Came, Call}
+use Rattle.answers.specs.Refusal.{Sparse, BlockLength, _⊳_, BadDimension, Unlike, Alike}
+use Rattle.answers.specs.Outcome.{done, Came, Call, _⨾_}
 
 -- ---- the packed block
-
--- how many numbers it has: n for a sparse cone, n(n+1)/2 for a dense one
-unfoldable pub BlockLength : ℕ → ℕ
-BlockLength n = cond (ltb 4 n) n (n * (n + 1) / 2)
 
 -- sparse: η² everywhere, the first times d
 unfoldable pub SparseHs : (n : ℕ) (η d : Float) → List Float
@@ -41,10 +37,10 @@ unfoldable pub DenseHs : (w : List Float) (η : Float) → List Float
 DenseHs w η = Columns (length w) (λ row col. η ⊗ η ⊗ DenseEntry w row col)
 
 unfoldable pub Hs : (w : List Float) (η d : Float) → List Float
-Hs w η d = cond (ltb 4 (length w)) (SparseHs (length w) η d) (DenseHs w η)
+Hs w η d = cond (Sparse (length w)) (SparseHs (length w) η d) (DenseHs w η)
 
 -- ---- the bare calls; the dimension is w's length
 
-abbrev pub SocGetHs : (hs w : List Float) (η d : Float) → Came
+abbrev pub SocGetHs : (hs w : List Float) (η d : Float) → Came 1 0
 SocGetHs hs w η d =
-    Call (BadDimension 2 (length w) ⊳ Unlike (Alike (BlockLength (length w)) (length hs ∷ []))) done (hs ∷ []) (Hs w η d ∷ [])
+    Call (BadDimension 2 (length w) ⊳ Unlike (Alike (BlockLength (length w)) (length hs ∷ []))) done (hs ⨾ tt) (Hs w η d ⨾ tt)

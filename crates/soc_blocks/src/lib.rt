@@ -2,13 +2,13 @@
 // once nothing is refused.
 use answers::Answer;
 ghost use mathlib.Core.Path.{_≡_};
-ghost use mathlib.Core.List.{[], _∷_};
 ghost use Prim.Native.Nat.{_+_, _*_, _/_, _≤_, _<_};
 ghost use lib.ListN.{length};
 ghost use Rattle.vecmath.specs.Double.{_⊗_};
 ghost use Rattle.vecmath.specs.Vector.{Each};
-ghost use Rattle.answers.specs.Outcome.{told};
-ghost use Rattle.soc_blocks.specs.Block.{BlockLength, SparseHs, DenseEntry, DenseHs, Hs, SocGetHs};
+ghost use Rattle.answers.specs.Refusal.{BlockLength};
+ghost use Rattle.answers.specs.Outcome.{tells, ofAnswer, _⨾_};
+ghost use Rattle.soc_blocks.specs.Block.{SparseHs, DenseEntry, DenseHs, Hs, SocGetHs};
 
 const SQRT_2: f64 = 1.4142135623730951;
 
@@ -81,7 +81,7 @@ pub fn get_hs(hs: &mut [f64], w: &[f64], eta: f64, d: f64)
 }
 
 pub fn soc_get_hs(hs: &mut [f64], w: &[f64], eta: &f64, d: &f64) -> Answer
-    ensures { λ r. ⌜ told r (now (hs .exit) ∷ [])
+    ensures { λ r. ⌜ tells (ofAnswer r) (now (hs .exit) ⨾ tt)
         ≡ SocGetHs (now (hs .entry)) (now (w .entry)) (now (eta .entry)) (now (d .entry)) ⌝ }
 {
     let no = answers::refusal(2, w.len(), hs.len() == block_length(w.len()));

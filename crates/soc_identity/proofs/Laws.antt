@@ -3,12 +3,14 @@ use Prim.Native.Nat.{ℕ, _≤_}
 use native.Mathlib.Omega.{arith}
 use mathlib.Core.Path.{_≡_, refl}
 use mathlib.Core.Bool.{Bool, true, false, cond}
-use mathlib.Core.List.{List, [], _∷_, map}
+use mathlib.Core.List.{List}
 use lib.ListN.{length, length-drop}
 use lib.Ieee.{Float}
 use Rattle.vecmath.specs.Vector.{Constant}
 use Rattle.vecmath.proofs.Loops.{length-each}
-use Rattle.soc_identity.specs.Identity.{Leading, Identity}
+use Rattle.tails.specs.Tail.{Leading}
+use Rattle.answers.proofs.Laws.{Long}
+use Rattle.soc_identity.specs.Identity.{Identity}
 
 -- ---- lengths
 
@@ -30,6 +32,7 @@ module _ (n : ℕ) (some : 1 ≤ n) where
   unfolding Leading
   length-leading a = simp (length-drop, length-constant) (omega arith)
 
-  pub lengths-identity : (w u v : List Float) (d : Float) → length w ≡ n → length u ≡ n → length v ≡ n → map length (Identity w u v d) ≡ n ∷ n ∷ n ∷ 1 ∷ 1 ∷ []
+  pub lengths-identity : (w u v : List Float) (d : Float) → length w ≡ n → length u ≡ n → length v ≡ n → Long n 3 2 (Identity w u v d)
   unfolding Identity
-  lengths-identity w u v d of-w of-u of-v = simp (of-w, length-cond, of-u, of-v, length-leading, length-constant, cond-same)
+  lengths-identity w u v d of-w of-u of-v =
+      (simp (of-w, length-leading), (simp (of-w, length-cond, of-u, length-leading, cond-same), (simp (of-w, length-cond, of-v, length-constant, cond-same), (tt, (tt, tt)))))

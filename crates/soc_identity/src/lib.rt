@@ -4,9 +4,10 @@ use answers::Answer;
 ghost use mathlib.Core.Path.{_≡_};
 ghost use mathlib.Core.List.{[], _∷_};
 ghost use lib.ListN.{length};
+ghost use Rattle.tails.specs.Tail.{Leading};
 ghost use Rattle.answers.specs.Refusal.{Fit};
-ghost use Rattle.answers.specs.Outcome.{told};
-ghost use Rattle.soc_identity.specs.Identity.{Leading, Identity, SocSetIdentityScaling};
+ghost use Rattle.answers.specs.Outcome.{tells, ofAnswer, _⨾_};
+ghost use Rattle.soc_identity.specs.Identity.{Identity, SocSetIdentityScaling};
 
 // x = (a, 0, ..)
 fn leading(x: &mut [f64], a: f64)
@@ -19,7 +20,7 @@ fn leading(x: &mut [f64], a: f64)
 
 pub fn set_identity_scaling(w: &mut [f64], u: &mut [f64], v: &mut [f64], eta: &mut f64, d: &mut f64)
     requires { ⌜ Fit 2 (length (now w)) (length (now u) ∷ length (now v) ∷ []) ⌝ }
-    ensures { λ _. ⌜ now (w .exit) ∷ now (u .exit) ∷ now (v .exit) ∷ (now (eta .exit) ∷ []) ∷ (now (d .exit) ∷ []) ∷ []
+    ensures { λ _. ⌜ now (w .exit) ⨾ now (u .exit) ⨾ now (v .exit) ⨾ now (eta .exit) ⨾ now (d .exit) ⨾ tt
         ≡ Identity (now (w .entry)) (now (u .entry)) (now (v .entry)) (now (d .entry)) ⌝ }
 {
     let sparse = 4 < w.len();
@@ -39,7 +40,7 @@ pub fn soc_set_identity_scaling(
     eta: &mut f64,
     d: &mut f64,
 ) -> Answer
-    ensures { λ r. ⌜ told r (now (w .exit) ∷ now (u .exit) ∷ now (v .exit) ∷ (now (eta .exit) ∷ []) ∷ (now (d .exit) ∷ []) ∷ [])
+    ensures { λ r. ⌜ tells (ofAnswer r) (now (w .exit) ⨾ now (u .exit) ⨾ now (v .exit) ⨾ now (eta .exit) ⨾ now (d .exit) ⨾ tt)
         ≡ SocSetIdentityScaling (now (w .entry)) (now (u .entry)) (now (v .entry)) (now (eta .entry)) (now (d .entry)) ⌝ }
 {
     let no = answers::refusal(2, w.len(), (u.len() == w.len()) & (v.len() == w.len()));

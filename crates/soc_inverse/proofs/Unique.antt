@@ -3,13 +3,13 @@ use mathlib.Core.Path.{_≡_}
 use mathlib.Core.List.{List}
 use lib.Ieee.{Float}
 use Rattle.answers.specs.declared.Answer.{Answer}
-use Rattle.answers.specs.Outcome.{Contents, told}
+use Rattle.answers.specs.Outcome.{tells, ofAnswer, Contents}
 use Rattle.answers.proofs.Unique.{one-answer}
 use Rattle.soc_inverse.specs.Inverse.{SocInvCircOp, SocLambdaInvCircOp}
 
-module _ {r r′ : Answer} {e e′ : Contents} where
-  soc-inv-circ-op : (x y z : List Float) → told r e ≡ SocInvCircOp x y z → told r′ e′ ≡ SocInvCircOp x y z → (r ≡ r′) × (e ≡ e′)
+module _ {r r′ : Answer} {e e′ : Contents 1 0} where
+  soc-inv-circ-op : (x y z : List Float) → tells (ofAnswer r) e ≡ SocInvCircOp x y z → tells (ofAnswer r′) e′ ≡ SocInvCircOp x y z → (r ≡ r′) × (e ≡ e′)
   soc-inv-circ-op x y z = one-answer
 
-  soc-lambda-inv-circ-op : (x z lambda : List Float) → told r e ≡ SocLambdaInvCircOp x z lambda → told r′ e′ ≡ SocLambdaInvCircOp x z lambda → (r ≡ r′) × (e ≡ e′)
+  soc-lambda-inv-circ-op : (x z lambda : List Float) → tells (ofAnswer r) e ≡ SocLambdaInvCircOp x z lambda → tells (ofAnswer r′) e′ ≡ SocLambdaInvCircOp x z lambda → (r ≡ r′) × (e ≡ e′)
   soc-lambda-inv-circ-op x z lambda = one-answer

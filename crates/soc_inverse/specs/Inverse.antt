@@ -7,7 +7,7 @@ use Rattle.vecmath.specs.Double.{_⊖_, _⊗_, _⊘_, 𝟏, _!_}
 use Rattle.vecmath.specs.Vector.{Dot, Axpby}
 use Rattle.tails.specs.Tail.{Tail}
 use Rattle.answers.specs.Refusal.{Refusal}
-use Rattle.answers.specs.Outcome.{done, Came, Call}
+use Rattle.answers.specs.Outcome.{done, Came, Call, _⨾_}
 use Rattle.soc_residual.specs.Residual.{Residual}
 
 -- ---- the values
@@ -24,9 +24,9 @@ InvCirc y z =
 
 -- ---- the bare calls
 
-abbrev pub SocInvCircOp : (x y z : List Float) → Came
-SocInvCircOp x y z = Call (Refusal 2 (length x) (length y ∷ length z ∷ [])) done (x ∷ []) (InvCirc y z ∷ [])
+abbrev pub SocInvCircOp : (x y z : List Float) → Came 1 0
+SocInvCircOp x y z = Call (Refusal 2 (length x) (length y ∷ length z ∷ [])) done (x ⨾ tt) (InvCirc y z ⨾ tt)
 
 -- the inverse product by lambda
-abbrev pub SocLambdaInvCircOp : (x z lambda : List Float) → Came
-SocLambdaInvCircOp x z lambda = Call (Refusal 2 (length x) (length z ∷ length lambda ∷ [])) done (x ∷ []) (InvCirc lambda z ∷ [])
+abbrev pub SocLambdaInvCircOp : (x z lambda : List Float) → Came 1 0
+SocLambdaInvCircOp x z lambda = Call (Refusal 2 (length x) (length z ∷ length lambda ∷ [])) done (x ⨾ tt) (InvCirc lambda z ⨾ tt)

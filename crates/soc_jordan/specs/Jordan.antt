@@ -7,7 +7,7 @@ use Rattle.vecmath.specs.Double.{_!_}
 use Rattle.vecmath.specs.Vector.{Dot, Axpby}
 use Rattle.tails.specs.Tail.{Tail}
 use Rattle.answers.specs.Refusal.{Refusal}
-use Rattle.answers.specs.Outcome.{done, Came, Call}
+use Rattle.answers.specs.Outcome.{done, Came, Call, _⨾_}
 
 -- ---- the values
 
@@ -17,9 +17,9 @@ Circ y z = Dot y z ∷ Axpby (y ! 0) (Tail z) (z ! 0) (Tail y)
 
 -- ---- the bare calls
 
-abbrev pub SocCircOp : (x y z : List Float) → Came
-SocCircOp x y z = Call (Refusal 2 (length x) (length y ∷ length z ∷ [])) done (x ∷ []) (Circ y z ∷ [])
+abbrev pub SocCircOp : (x y z : List Float) → Came 1 0
+SocCircOp x y z = Call (Refusal 2 (length x) (length y ∷ length z ∷ [])) done (x ⨾ tt) (Circ y z ⨾ tt)
 
 -- lambda's product with itself
-abbrev pub SocAffineDs : (ds lambda : List Float) → Came
-SocAffineDs ds lambda = Call (Refusal 2 (length ds) (length lambda ∷ [])) done (ds ∷ []) (Circ lambda lambda ∷ [])
+abbrev pub SocAffineDs : (ds lambda : List Float) → Came 1 0
+SocAffineDs ds lambda = Call (Refusal 2 (length ds) (length lambda ∷ [])) done (ds ⨾ tt) (Circ lambda lambda ⨾ tt)

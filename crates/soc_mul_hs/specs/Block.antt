@@ -6,7 +6,7 @@ use Rattle.vecmath.specs.Double.{_⊗_, 𝟏, 𝟐, _!_}
 use Rattle.vecmath.specs.Vector.{Dot, Scale, Axpby}
 use Rattle.tails.specs.Tail.{Tail}
 use Rattle.answers.specs.Refusal.{Refusal}
-use Rattle.answers.specs.Outcome.{done, Came, Call}
+use Rattle.answers.specs.Outcome.{done, Came, Call, _⨾_}
 
 -- ---- the values
 
@@ -18,5 +18,5 @@ MulHs x w η =
 
 -- ---- the bare calls
 
-abbrev pub SocMulHs : (y x w : List Float) (η : Float) → Came
-SocMulHs y x w η = Call (Refusal 2 (length y) (length x ∷ length w ∷ [])) done (y ∷ []) (MulHs x w η ∷ [])
+abbrev pub SocMulHs : (y x w : List Float) (η : Float) → Came 1 0
+SocMulHs y x w η = Call (Refusal 2 (length y) (length x ∷ length w ∷ [])) done (y ⨾ tt) (MulHs x w η ⨾ tt)

@@ -5,7 +5,7 @@ ghost use mathlib.Core.Path.{_≡_};
 ghost use mathlib.Core.List.{[], _∷_};
 ghost use lib.ListN.{length};
 ghost use Rattle.answers.specs.Refusal.{Fit};
-ghost use Rattle.answers.specs.Outcome.{told};
+ghost use Rattle.answers.specs.Outcome.{tells, ofAnswer, _⨾_};
 ghost use Rattle.soc_mul_hs.specs.Block.{MulHs, SocMulHs};
 
 pub fn mul_hs(y: &mut [f64], x: &[f64], w: &[f64], eta: f64)
@@ -21,7 +21,7 @@ pub fn mul_hs(y: &mut [f64], x: &[f64], w: &[f64], eta: f64)
 
 // y = Hs·x
 pub fn soc_mul_hs(y: &mut [f64], x: &[f64], w: &[f64], eta: &f64) -> Answer
-    ensures { λ r. ⌜ told r (now (y .exit) ∷ [])
+    ensures { λ r. ⌜ tells (ofAnswer r) (now (y .exit) ⨾ tt)
         ≡ SocMulHs (now (y .entry)) (now (x .entry)) (now (w .entry)) (now (eta .entry)) ⌝ }
 {
     let no = answers::refusal(2, y.len(), (x.len() == y.len()) & (w.len() == y.len()));

@@ -6,7 +6,7 @@ use Rattle.vecmath.specs.Double.{_⊕_, _⊖_, _⊗_, _⊘_, 𝟏, _!_}
 use Rattle.vecmath.specs.Vector.{Each, Dot, Scale, Negated}
 use Rattle.tails.specs.Tail.{Tail}
 use Rattle.answers.specs.Refusal.{Refusal}
-use Rattle.answers.specs.Outcome.{done, Came, Call}
+use Rattle.answers.specs.Outcome.{done, Came, Call, _⨾_}
 use Rattle.soc_residual.specs.Residual.{Residual}
 
 -- ---- the values
@@ -28,6 +28,6 @@ Offset ds z w lambda η =
 
 -- ---- the bare call
 
-abbrev pub SocDsFromDzOffset : (out ds z w lambda : List Float) (η : Float) → Came
+abbrev pub SocDsFromDzOffset : (out ds z w lambda : List Float) (η : Float) → Came 1 0
 SocDsFromDzOffset out ds z w lambda η =
-    Call (Refusal 2 (length out) (length ds ∷ length z ∷ length w ∷ length lambda ∷ [])) done (out ∷ []) (Offset ds z w lambda η ∷ [])
+    Call (Refusal 2 (length out) (length ds ∷ length z ∷ length w ∷ length lambda ∷ [])) done (out ⨾ tt) (Offset ds z w lambda η ⨾ tt)

@@ -8,7 +8,7 @@ ghost use lib.ListN.{length};
 ghost use Rattle.vecmath.specs.Double.{_!_};
 ghost use Rattle.tails.specs.Tail.{Tail};
 ghost use Rattle.answers.specs.Refusal.{Fit};
-ghost use Rattle.answers.specs.Outcome.{told};
+ghost use Rattle.answers.specs.Outcome.{tells, ofAnswer, _⨾_};
 ghost use Rattle.soc_offset.specs.Offset.{AddOffset, Offset, SocDsFromDzOffset};
 
 // out = out + eta·(ds + kappa·w)
@@ -66,7 +66,7 @@ pub fn soc_ds_from_dz_offset(
     lambda: &[f64],
     eta: &f64,
 ) -> Answer
-    ensures { λ r. ⌜ told r (now (out .exit) ∷ []) ≡ SocDsFromDzOffset (now (out .entry)) (now (ds .entry)) (now (z .entry))
+    ensures { λ r. ⌜ tells (ofAnswer r) (now (out .exit) ⨾ tt) ≡ SocDsFromDzOffset (now (out .entry)) (now (ds .entry)) (now (z .entry))
         (now (w .entry)) (now (lambda .entry)) (now (eta .entry)) ⌝ }
 {
     let same = (ds.len() == out.len())

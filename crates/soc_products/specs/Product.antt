@@ -7,7 +7,7 @@ use Rattle.vecmath.specs.Double.{_⊕_, _⊖_, _⊗_, _⊘_, 𝟏, _!_}
 use Rattle.vecmath.specs.Vector.{Dot, Axpby}
 use Rattle.tails.specs.Tail.{Tail}
 use Rattle.answers.specs.Refusal.{Refusal}
-use Rattle.answers.specs.Outcome.{done, Came, Call}
+use Rattle.answers.specs.Outcome.{done, Came, Call, _⨾_}
 
 -- ---- the values
 
@@ -31,8 +31,8 @@ MulWinv y x α β w η =
 
 -- ---- the bare calls
 
-abbrev pub SocMulW : (y x : List Float) (α β : Float) (w : List Float) (η : Float) → Came
-SocMulW y x α β w η = Call (Refusal 2 (length y) (length x ∷ length w ∷ [])) done (y ∷ []) (MulW y x α β w η ∷ [])
+abbrev pub SocMulW : (y x : List Float) (α β : Float) (w : List Float) (η : Float) → Came 1 0
+SocMulW y x α β w η = Call (Refusal 2 (length y) (length x ∷ length w ∷ [])) done (y ⨾ tt) (MulW y x α β w η ⨾ tt)
 
-abbrev pub SocMulWinv : (y x : List Float) (α β : Float) (w : List Float) (η : Float) → Came
-SocMulWinv y x α β w η = Call (Refusal 2 (length y) (length x ∷ length w ∷ [])) done (y ∷ []) (MulWinv y x α β w η ∷ [])
+abbrev pub SocMulWinv : (y x : List Float) (α β : Float) (w : List Float) (η : Float) → Came 1 0
+SocMulWinv y x α β w η = Call (Refusal 2 (length y) (length x ∷ length w ∷ [])) done (y ⨾ tt) (MulWinv y x α β w η ⨾ tt)

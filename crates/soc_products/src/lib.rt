@@ -5,7 +5,7 @@ ghost use mathlib.Core.Path.{_≡_};
 ghost use mathlib.Core.List.{[], _∷_};
 ghost use lib.ListN.{length};
 ghost use Rattle.answers.specs.Refusal.{Fit};
-ghost use Rattle.answers.specs.Outcome.{told};
+ghost use Rattle.answers.specs.Outcome.{tells, ofAnswer, _⨾_};
 ghost use Rattle.soc_products.specs.Product.{MulW, MulWinv, SocMulW, SocMulWinv};
 
 pub fn mul_w(y: &mut [f64], x: &[f64], alpha: f64, beta: f64, w: &[f64], eta: f64)
@@ -21,7 +21,7 @@ pub fn mul_w(y: &mut [f64], x: &[f64], alpha: f64, beta: f64, w: &[f64], eta: f6
 
 // y = alpha·W·x + beta·y
 pub fn soc_mul_w(y: &mut [f64], x: &[f64], alpha: f64, beta: f64, w: &[f64], eta: &f64) -> Answer
-    ensures { λ r. ⌜ told r (now (y .exit) ∷ [])
+    ensures { λ r. ⌜ tells (ofAnswer r) (now (y .exit) ⨾ tt)
         ≡ SocMulW (now (y .entry)) (now (x .entry)) alpha beta (now (w .entry)) (now (eta .entry)) ⌝ }
 {
     let no = answers::refusal(2, y.len(), (x.len() == y.len()) & (w.len() == y.len()));
@@ -45,7 +45,7 @@ pub fn mul_winv(y: &mut [f64], x: &[f64], alpha: f64, beta: f64, w: &[f64], eta:
 
 // y = alpha·W⁻¹·x + beta·y
 pub fn soc_mul_winv(y: &mut [f64], x: &[f64], alpha: f64, beta: f64, w: &[f64], eta: &f64) -> Answer
-    ensures { λ r. ⌜ told r (now (y .exit) ∷ [])
+    ensures { λ r. ⌜ tells (ofAnswer r) (now (y .exit) ⨾ tt)
         ≡ SocMulWinv (now (y .entry)) (now (x .entry)) alpha beta (now (w .entry)) (now (eta .entry)) ⌝ }
 {
     let no = answers::refusal(2, y.len(), (x.len() == y.len()) & (w.len() == y.len()));

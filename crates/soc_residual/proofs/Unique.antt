@@ -3,16 +3,16 @@ use mathlib.Core.Path.{_≡_}
 use mathlib.Core.List.{List}
 use lib.Ieee.{Float}
 use Rattle.answers.specs.declared.Number.{Number}
-use Rattle.answers.specs.Outcome.{toldNumber}
+use Rattle.answers.specs.Outcome.{tells, ofNumber}
 use Rattle.answers.proofs.Unique.{one-number}
 use Rattle.soc_residual.specs.Residual.{SocResidual, SocResidualShifted, SqrtSocResidual}
 
 module _ {r r′ : Number} where
-  soc-residual : (z : List Float) → toldNumber r ≡ SocResidual z → toldNumber r′ ≡ SocResidual z → r ≡ r′
+  soc-residual : (z : List Float) → tells (ofNumber r) tt ≡ SocResidual z → tells (ofNumber r′) tt ≡ SocResidual z → r ≡ r′
   soc-residual z = one-number
 
-  soc-residual-shifted : (z dz : List Float) (α : Float) → toldNumber r ≡ SocResidualShifted z dz α → toldNumber r′ ≡ SocResidualShifted z dz α → r ≡ r′
+  soc-residual-shifted : (z dz : List Float) (α : Float) → tells (ofNumber r) tt ≡ SocResidualShifted z dz α → tells (ofNumber r′) tt ≡ SocResidualShifted z dz α → r ≡ r′
   soc-residual-shifted z dz α = one-number
 
-  sqrt-soc-residual : (z : List Float) → toldNumber r ≡ SqrtSocResidual z → toldNumber r′ ≡ SqrtSocResidual z → r ≡ r′
+  sqrt-soc-residual : (z : List Float) → tells (ofNumber r) tt ≡ SqrtSocResidual z → tells (ofNumber r′) tt ≡ SqrtSocResidual z → r ≡ r′
   sqrt-soc-residual z = one-number

@@ -30,11 +30,11 @@ RootScale z = let ρ = Residual z in cond (lt 𝟎 ρ) (Root ρ) 𝟎
 
 -- ---- the bare calls
 
-abbrev pub SocResidual : List Float → Came
-SocResidual z = Call (Refusal 2 (length z) []) (number (Residual z)) [] []
+abbrev pub SocResidual : List Float → Came 0 0
+SocResidual z = Call (Refusal 2 (length z) []) (number (Residual z)) tt tt
 
-abbrev pub SocResidualShifted : List Float → List Float → Float → Came
-SocResidualShifted z dz α = Call (Refusal 2 (length z) (length dz ∷ [])) (number (ResidualShifted z dz α)) [] []
+abbrev pub SocResidualShifted : List Float → List Float → Float → Came 0 0
+SocResidualShifted z dz α = Call (Refusal 2 (length z) (length dz ∷ [])) (number (ResidualShifted z dz α)) tt tt
 
-abbrev pub SqrtSocResidual : List Float → Came
-SqrtSocResidual z = Call (Refusal 2 (length z) []) (number (RootScale z)) [] []
+abbrev pub SqrtSocResidual : List Float → Came 0 0
+SqrtSocResidual z = Call (Refusal 2 (length z) []) (number (RootScale z)) tt tt

@@ -5,7 +5,7 @@ ghost use mathlib.Core.Path.{_≡_};
 ghost use mathlib.Core.List.{[], _∷_};
 ghost use lib.ListN.{length};
 ghost use Rattle.answers.specs.Refusal.{Fit};
-ghost use Rattle.answers.specs.Outcome.{toldNumber};
+ghost use Rattle.answers.specs.Outcome.{tells, ofNumber};
 ghost use Rattle.soc_residual.specs.Residual.{Residual, ResidualShifted, RootScale, SocResidual, SocResidualShifted, SqrtSocResidual};
 
 pub fn residual(z: &[f64]) -> f64
@@ -36,7 +36,7 @@ pub fn sqrt_residual(z: &[f64]) -> f64
 }
 
 pub fn soc_residual(z: &[f64]) -> Number
-    ensures { λ r. ⌜ toldNumber r ≡ SocResidual (now (z .entry)) ⌝ }
+    ensures { λ r. ⌜ tells (ofNumber r) tt ≡ SocResidual (now (z .entry)) ⌝ }
 {
     let no = answers::refusal(2, z.len(), true);
     if no != 0 {
@@ -46,7 +46,7 @@ pub fn soc_residual(z: &[f64]) -> Number
 }
 
 pub fn soc_residual_shifted(z: &[f64], dz: &[f64], alpha: f64) -> Number
-    ensures { λ r. ⌜ toldNumber r ≡ SocResidualShifted (now (z .entry)) (now (dz .entry)) alpha ⌝ }
+    ensures { λ r. ⌜ tells (ofNumber r) tt ≡ SocResidualShifted (now (z .entry)) (now (dz .entry)) alpha ⌝ }
 {
     let no = answers::refusal(2, z.len(), dz.len() == z.len());
     if no != 0 {
@@ -56,7 +56,7 @@ pub fn soc_residual_shifted(z: &[f64], dz: &[f64], alpha: f64) -> Number
 }
 
 pub fn sqrt_soc_residual(z: &[f64]) -> Number
-    ensures { λ r. ⌜ toldNumber r ≡ SqrtSocResidual (now (z .entry)) ⌝ }
+    ensures { λ r. ⌜ tells (ofNumber r) tt ≡ SqrtSocResidual (now (z .entry)) ⌝ }
 {
     let no = answers::refusal(2, z.len(), true);
     if no != 0 {

@@ -3,10 +3,10 @@ use mathlib.Core.Path.{_≡_}
 use mathlib.Core.List.{List}
 use lib.Ieee.{Float}
 use Rattle.answers.specs.declared.Scaling.{Scaling}
-use Rattle.answers.specs.Outcome.{Contents, toldScaling}
+use Rattle.answers.specs.Outcome.{tells, ofScaling, Contents}
 use Rattle.answers.proofs.Unique.{one-scaling}
 use Rattle.soc_scaling.specs.Scaling.{SocUpdateScaling}
 
-module _ {e e′ : Contents} where
-  soc-update-scaling : {r r′ : Scaling} (s z w lambda u v : List Float) (η d : Float) → toldScaling r e ≡ SocUpdateScaling s z w lambda u v η d → toldScaling r′ e′ ≡ SocUpdateScaling s z w lambda u v η d → (r ≡ r′) × (e ≡ e′)
+module _ {e e′ : Contents 4 2} where
+  soc-update-scaling : {r r′ : Scaling} (s z w lambda u v : List Float) (η d : Float) → tells (ofScaling r) e ≡ SocUpdateScaling s z w lambda u v η d → tells (ofScaling r′) e′ ≡ SocUpdateScaling s z w lambda u v η d → (r ≡ r′) × (e ≡ e′)
   soc-update-scaling s z w lambda u v η d = one-scaling

@@ -5,25 +5,24 @@ use lib.ListN.{length}
 use lib.Ieee.{Float, eq}
 use Rattle.root.specs.Root.{Root}
 use Rattle.vecmath.specs.Double.{_⊘_, 𝟎}
-use Rattle.answers.specs.Refusal.{Refusal}
-use Rattle.answers.specs.Outcome.{truth, Contents, Came, Does, CallDoes}
+use Rattle.answers.specs.Refusal.{Sparse, Refusal}
+use Rattle.answers.specs.Outcome.{Reply, truth, Gives, CallDoes, _⨾_, Came, Contents}
 use Rattle.soc_residual.specs.Residual.{RootScale}
 use Rattle.soc_terms.specs.Terms.{Point, Normed, Lambda}
 use Rattle.soc_sparse.specs.Sparse.{SparseD, SparseU, SparseV}
-use Rattle.soc_identity.specs.Identity.{Sparse}
 
 -- what a second-order cone stores: w, lambda, u, v, η, d
-abbrev pub Stored : (w lambda u v : List Float) (η d : Float) → Contents
-Stored w lambda u v η d = w ∷ lambda ∷ u ∷ v ∷ (η ∷ []) ∷ (d ∷ []) ∷ []
+abbrev pub Stored : (w lambda u v : List Float) (η d : Float) → Contents 4 2
+Stored w lambda u v η d = w ⨾ lambda ⨾ u ⨾ v ⨾ η ⨾ d ⨾ tt
 
 -- ---- scaling, with ζ, σ and ω the root scales of z, s and w; w and lambda are of soc_terms, the sparse terms of soc_sparse
 
 -- A late false, where the root scale of w is zero: η and w are written, the rest is kept.
-abbrev pub LateFalse : (w lambda u v : List Float) (η d : Float) (w′ : List Float) (η′ : Float) → Does
+abbrev pub LateFalse : (w lambda u v : List Float) (η d : Float) (w′ : List Float) (η′ : Float) → Gives Reply (Contents 4 2)
 LateFalse w lambda u v η d w′ η′ = record { reply = truth false; news = Stored w′ lambda u v η′ d }
 
 -- the answer with what is then stored. An early false, where the scale of z or s is zero, changes nothing
-unfoldable pub UpdateScaling : (s z w lambda u v : List Float) (η d : Float) → Does
+unfoldable pub UpdateScaling : (s z w lambda u v : List Float) (η d : Float) → Gives Reply (Contents 4 2)
 UpdateScaling s z w lambda u v η d =
     let ζ = RootScale z in
     let σ = RootScale s in
@@ -40,7 +39,7 @@ UpdateScaling s z w lambda u v η d =
 
 -- ---- the bare calls
 
-abbrev pub SocUpdateScaling : (s z w lambda u v : List Float) (η d : Float) → Came
+abbrev pub SocUpdateScaling : (s z w lambda u v : List Float) (η d : Float) → Came 4 2
 SocUpdateScaling s z w lambda u v η d =
     CallDoes (Refusal 2 (length s) (length z ∷ length w ∷ length lambda ∷ length u ∷ length v ∷ []))
     (Stored w lambda u v η d) (UpdateScaling s z w lambda u v η d)

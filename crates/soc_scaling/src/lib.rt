@@ -5,7 +5,7 @@ ghost use mathlib.Core.Path.{_≡_};
 ghost use mathlib.Core.List.{[], _∷_};
 ghost use lib.ListN.{length};
 ghost use Rattle.answers.specs.Refusal.{Fit};
-ghost use Rattle.answers.specs.Outcome.{truth, toldScaling};
+ghost use Rattle.answers.specs.Outcome.{truth, tells, ofScaling};
 ghost use Rattle.soc_scaling.specs.Scaling.{Stored, UpdateScaling, SocUpdateScaling};
 
 pub fn update_scaling(
@@ -54,7 +54,7 @@ pub fn soc_update_scaling(
     eta: &mut f64,
     d: &mut f64,
 ) -> Scaling
-    ensures { λ r. ⌜ toldScaling r
+    ensures { λ r. ⌜ tells (ofScaling r)
         (Stored (now (w .exit)) (now (lambda .exit)) (now (u .exit)) (now (v .exit)) (now (eta .exit)) (now (d .exit)))
         ≡ SocUpdateScaling (now (s .entry)) (now (z .entry)) (now (w .entry)) (now (lambda .entry)) (now (u .entry)) (now (v .entry))
         (now (eta .entry)) (now (d .entry)) ⌝ }
@@ -68,5 +68,5 @@ pub fn soc_update_scaling(
     if no != 0 {
         return Scaling::Refused(no);
     }
-    Scaling::Told(update_scaling(s, z, w, lambda, u, v, eta, d))
+    Scaling::Truth(update_scaling(s, z, w, lambda, u, v, eta, d))
 }

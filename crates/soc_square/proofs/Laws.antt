@@ -1,9 +1,9 @@
 -- Laws of the square block: against the packed numbers, and what a refusal's number says. Assumes nothing.
-use Prim.Native.Nat.{ℕ, zero, suc, _+_, _*_, _/_, _≤_, _<_}
+use Prim.Native.Nat.{ℕ, _+_, _*_, _/_, _≤_, _<_}
 use native.Mathlib.Omega.{arith}
 use native.Mathlib.Nat.{eq-or-lt-of-le}
 use mathlib.Core.Logic.{_⊎_, ⊎-elim}
-use mathlib.Core.Path.{_≡_, refl, sym, ap, _∙_}
+use mathlib.Core.Path.{_≡_, refl, sym, _∙_}
 use mathlib.Core.Bool.{Bool, true, false, cond, _&&_, and-false}
 use mathlib.Core.List.{List, []}
 use borrow.Author.Tests.{ltb-true, lt-ltb, le-ltb}
@@ -13,7 +13,8 @@ use lib.Ieee.{Float, nan}
 use Rattle.vecmath.specs.Double.{𝟎, _!_}
 use Rattle.vecmath.specs.Vector.{Each}
 use Rattle.vecmath.proofs.Loops.{each-at}
-use Rattle.answers.specs.Outcome.{NoMatrix, SquaredBy}
+use Rattle.answers.proofs.Laws.{refused}
+use Rattle.answers.specs.Outcome.{NoMatrix, AsSquared, Call}
 use Rattle.soc_blocks.specs.Block.{DenseEntry, Hs}
 use Rattle.soc_square.specs.Square.{SquareEntry, SquareHs}
 use Rattle.soc_blocks.proofs.Laws.{packed-at}
@@ -62,11 +63,10 @@ both-below a b n e = go (ltb a n) (ltb b n) refl refl e
 -- ---- refusals
 
 -- what a call for the square matrix comes to that computed its refusal's number k
-pub square-refused : {n k : ℕ} (matrix : List (List Float)) → k ≡ n → (k ≡ 0 → ⊥) → record { number = k; matrix = NoMatrix } ≡ SquaredBy n matrix
-unfolding SquaredBy
-square-refused {k = zero} matrix e h = absurd (h refl)
-square-refused {k = suc k} matrix e h = ap (λ m. SquaredBy m matrix) e
+module _ {B : Type 0} {n k : ℕ} (matrix : List (List Float)) (old new : B) where
+  pub square-refused : k ≡ n → (k ≡ 0 → ⊥) → record { refusal = k; matrix = NoMatrix } ≡ AsSquared (Call n matrix old new .ruling)
+  square-refused e h = rw (← refused matrix old new e h)
 
-pub square-given : {n k : ℕ} {rows matrix : List (List Float)} → k ≡ n → k ≡ 0 → rows ≡ matrix → record { number = 0; matrix = rows } ≡ SquaredBy n matrix
-unfolding SquaredBy
-square-given e z g = rw (g, ← e, z)
+  pub square-given : {rows : List (List Float)} → k ≡ n → k ≡ 0 → rows ≡ matrix → record { refusal = 0; matrix = rows } ≡ AsSquared (Call n matrix old new .ruling)
+  unfolding Call
+  square-given e z g = rw (g, ← e, z)

@@ -3,9 +3,9 @@ use mathlib.Core.Path.{_≡_}
 use mathlib.Core.List.{List}
 use lib.Ieee.{Float}
 use Rattle.answers.specs.declared.Square.{Square}
-use Rattle.answers.specs.Outcome.{toldSquare}
+use Rattle.answers.specs.Outcome.{AsSquared, ofSquare}
 use Rattle.answers.proofs.Unique.{one-square}
 use Rattle.soc_square.specs.Square.{SocSquareHs}
 
-soc-square-hs : {r r′ : Square} (w : List Float) (η : Float) → toldSquare r ≡ SocSquareHs w η → toldSquare r′ ≡ SocSquareHs w η → r ≡ r′
+soc-square-hs : {r r′ : Square} (w : List Float) (η : Float) → ofSquare r ≡ AsSquared (SocSquareHs w η .ruling) → ofSquare r′ ≡ AsSquared (SocSquareHs w η .ruling) → r ≡ r′
 soc-square-hs w η = one-square

@@ -8,7 +8,7 @@ use lib.Ieee.{Float}
 use Rattle.vecmath.specs.Double.{_⊗_, 𝟎}
 use Rattle.vecmath.specs.Vector.{Each}
 use Rattle.answers.specs.Refusal.{_⊳_, BadDimension, NotDense}
-use Rattle.answers.specs.Outcome.{Squared, SquaredBy}
+use Rattle.answers.specs.Outcome.{Outcome, Call}
 use Rattle.soc_blocks.specs.Block.{DenseEntry}
 
 -- ---- the dense block as a square matrix: both triangles filled, +0 beyond the dimension
@@ -24,5 +24,5 @@ SquareHs w η = Each 4 (λ row. Each 4 (λ col. SquareEntry w η row col))
 
 -- ---- the bare calls; the dimension is w's length
 
-abbrev pub SocSquareHs : (w : List Float) (η : Float) → Squared
-SocSquareHs w η = SquaredBy (BadDimension 2 (length w) ⊳ NotDense (length w)) (SquareHs w η)
+abbrev pub SocSquareHs : (w : List Float) (η : Float) → Outcome (List (List Float)) (Unit {0})
+SocSquareHs w η = Call (BadDimension 2 (length w) ⊳ NotDense (length w)) (SquareHs w η) tt tt

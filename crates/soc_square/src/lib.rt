@@ -6,7 +6,7 @@ ghost use mathlib.Core.Path.{_≡_};
 ghost use mathlib.Core.List.{map};
 ghost use Prim.Native.Nat.{_*_, _<_};
 ghost use Rattle.vecmath.specs.Vector.{Each};
-ghost use Rattle.answers.specs.Outcome.{toldSquare, NoMatrix};
+ghost use Rattle.answers.specs.Outcome.{AsSquared, ofSquare, NoMatrix};
 ghost use Rattle.soc_square.specs.Square.{SquareEntry, SquareHs, SocSquareHs};
 
 // An entry of the square matrix: of either triangle, or beyond the dimension.
@@ -46,14 +46,14 @@ pub fn square_hs(w: &[f64], eta: f64) -> [Row; 4]
 
 // A refusal's number beside a matrix of zeros.
 pub fn no_square(no: u8) -> Square
-    ensures { λ r. ⌜ toldSquare r ≡ record { number = no; matrix = NoMatrix } ⌝ }
+    ensures { λ r. ⌜ ofSquare r ≡ record { refusal = no; matrix = NoMatrix } ⌝ }
 {
     let row = Row { entries: [0.0; 4] };
     Square { no, rows: [row; 4] }
 }
 
 pub fn soc_square_hs(w: &[f64], eta: &f64) -> Square
-    ensures { λ r. ⌜ toldSquare r ≡ SocSquareHs (now (w .entry)) (now (eta .entry)) ⌝ }
+    ensures { λ r. ⌜ ofSquare r ≡ AsSquared (SocSquareHs (now (w .entry)) (now (eta .entry)) .ruling) ⌝ }
 {
     let no = answers::first_refusal(
         answers::dimension_refusal(2, w.len()),

@@ -4,12 +4,12 @@ use mathlib.Core.List.{List}
 use lib.Ieee.{Float}
 use Rattle.answers.specs.declared.Step.{Step}
 use Rattle.answers.specs.declared.Steps.{Steps}
-use Rattle.answers.specs.Outcome.{toldStep, toldSteps}
+use Rattle.answers.specs.Outcome.{tells, ofStep, ofSteps}
 use Rattle.answers.proofs.Unique.{one-step, one-pair}
 use Rattle.soc_step.specs.Step.{SocStep, SocStepLength}
 
-soc-step : {r r′ : Step} (x y : List Float) (αmax : Float) → toldStep r ≡ SocStep x y αmax → toldStep r′ ≡ SocStep x y αmax → r ≡ r′
+soc-step : {r r′ : Step} (x y : List Float) (αmax : Float) → tells (ofStep r) tt ≡ SocStep x y αmax → tells (ofStep r′) tt ≡ SocStep x y αmax → r ≡ r′
 soc-step x y αmax = one-step
 
-soc-step-length : {r r′ : Steps} (dz ds z s : List Float) (αmax : Float) → toldSteps r ≡ SocStepLength dz ds z s αmax → toldSteps r′ ≡ SocStepLength dz ds z s αmax → r ≡ r′
+soc-step-length : {r r′ : Steps} (dz ds z s : List Float) (αmax : Float) → tells (ofSteps r) tt ≡ SocStepLength dz ds z s αmax → tells (ofSteps r′) tt ≡ SocStepLength dz ds z s αmax → r ≡ r′
 soc-step-length dz ds z s αmax = one-pair

@@ -61,11 +61,11 @@ StepAlong x y αmax = SocStepBy Least x y αmax
 
 -- ---- the bare calls
 
-abbrev pub SocStep : (x y : List Float) (αmax : Float) → Came
-SocStep x y αmax = Call (Refusal 2 (length x) (length y ∷ []) ⊳ BadLimit αmax) (number (StepAlong x y αmax)) [] []
+abbrev pub SocStep : (x y : List Float) (αmax : Float) → Came 0 0
+SocStep x y αmax = Call (Refusal 2 (length x) (length y ∷ []) ⊳ BadLimit αmax) (number (StepAlong x y αmax)) tt tt
 
 -- the pair, z side and s side
-abbrev pub SocStepLength : (dz ds z s : List Float) (αmax : Float) → Came
+abbrev pub SocStepLength : (dz ds z s : List Float) (αmax : Float) → Came 0 0
 SocStepLength dz ds z s αmax =
     Call (Refusal 2 (length dz) (length ds ∷ length z ∷ length s ∷ []) ⊳ BadLimit αmax)
-    (lengths (StepAlong z dz αmax) (StepAlong s ds αmax)) [] []
+    (lengths (StepAlong z dz αmax) (StepAlong s ds αmax)) tt tt

@@ -7,7 +7,7 @@ ghost use mathlib.Core.List.{[], _∷_};
 ghost use lib.ListN.{length};
 ghost use Rattle.extrema.specs.Extrema.{Least};
 ghost use Rattle.answers.specs.Refusal.{Fit};
-ghost use Rattle.answers.specs.Outcome.{toldStep, toldSteps};
+ghost use Rattle.answers.specs.Outcome.{tells, ofStep, ofSteps};
 ghost use Rattle.soc_step.specs.Step.{Forward, Turn, Lowered, Roots, Branches, StepAlong, SocStep, SocStepLength};
 
 // A root below 0 is none.
@@ -84,7 +84,7 @@ pub fn step_length(dz: &[f64], ds: &[f64], z: &[f64], s: &[f64], limit: f64) -> 
 
 // The step of one side: of x along y, of at most limit.
 pub fn soc_step(x: &[f64], y: &[f64], limit: f64) -> Step
-    ensures { λ r. ⌜ toldStep r ≡ SocStep (now (x .entry)) (now (y .entry)) limit ⌝ }
+    ensures { λ r. ⌜ tells (ofStep r) tt ≡ SocStep (now (x .entry)) (now (y .entry)) limit ⌝ }
 {
     let no = answers::step_refusal(2, x.len(), y.len() == x.len(), limit);
     if no != 0 {
@@ -95,7 +95,7 @@ pub fn soc_step(x: &[f64], y: &[f64], limit: f64) -> Step
 
 // The pair of steps: z along dz, and s along ds.
 pub fn soc_step_length(dz: &[f64], ds: &[f64], z: &[f64], s: &[f64], limit: f64) -> Steps
-    ensures { λ r. ⌜ toldSteps r ≡ SocStepLength (now (dz .entry)) (now (ds .entry)) (now (z .entry)) (now (s .entry)) limit ⌝ }
+    ensures { λ r. ⌜ tells (ofSteps r) tt ≡ SocStepLength (now (dz .entry)) (now (ds .entry)) (now (z .entry)) (now (s .entry)) limit ⌝ }
 {
     let no = answers::step_refusal(
         2,

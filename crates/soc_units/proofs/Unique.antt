@@ -4,16 +4,16 @@ use mathlib.Core.List.{List}
 use lib.Ieee.{Float}
 use Rattle.answers.specs.declared.Answer.{Answer}
 use Rattle.answers.specs.declared.Margins.{Margins}
-use Rattle.answers.specs.Outcome.{Contents, told, toldMargins}
+use Rattle.answers.specs.Outcome.{tells, ofAnswer, ofMargins, Contents}
 use Rattle.answers.proofs.Unique.{one-answer, one-margins}
 use Rattle.soc_units.specs.Units.{SocMargins, SocScaledUnitShift, SocUnitInitialization}
 
-soc-margins : {r r′ : Margins} (z : List Float) → toldMargins r ≡ SocMargins z → toldMargins r′ ≡ SocMargins z → r ≡ r′
+soc-margins : {r r′ : Margins} (z : List Float) → tells (ofMargins r) tt ≡ SocMargins z → tells (ofMargins r′) tt ≡ SocMargins z → r ≡ r′
 soc-margins z = one-margins
 
-module _ {r r′ : Answer} {e e′ : Contents} where
-  soc-scaled-unit-shift : (z : List Float) (α : Float) → told r e ≡ SocScaledUnitShift z α → told r′ e′ ≡ SocScaledUnitShift z α → (r ≡ r′) × (e ≡ e′)
+module _ {r r′ : Answer} where
+  soc-scaled-unit-shift : {e e′ : Contents 1 0} (z : List Float) (α : Float) → tells (ofAnswer r) e ≡ SocScaledUnitShift z α → tells (ofAnswer r′) e′ ≡ SocScaledUnitShift z α → (r ≡ r′) × (e ≡ e′)
   soc-scaled-unit-shift z α = one-answer
 
-  soc-unit-initialization : (z s : List Float) → told r e ≡ SocUnitInitialization z s → told r′ e′ ≡ SocUnitInitialization z s → (r ≡ r′) × (e ≡ e′)
+  soc-unit-initialization : {e e′ : Contents 2 0} (z s : List Float) → tells (ofAnswer r) e ≡ SocUnitInitialization z s → tells (ofAnswer r′) e′ ≡ SocUnitInitialization z s → (r ≡ r′) × (e ≡ e′)
   soc-unit-initialization z s = one-answer

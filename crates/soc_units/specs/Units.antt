@@ -6,10 +6,10 @@ use lib.ListN.{length}
 use lib.Ieee.{Float}
 use Rattle.extrema.specs.Extrema.{Greatest}
 use Rattle.vecmath.specs.Double.{_⊕_, _⊖_, 𝟎, 𝟏, _!_}
-use Rattle.vecmath.specs.Vector.{Norm, Constant}
-use Rattle.tails.specs.Tail.{Tail}
+use Rattle.vecmath.specs.Vector.{Norm}
+use Rattle.tails.specs.Tail.{Tail, Leading}
 use Rattle.answers.specs.Refusal.{Refusal}
-use Rattle.answers.specs.Outcome.{done, margins, Came, Call}
+use Rattle.answers.specs.Outcome.{done, margins, Came, Call, _⨾_}
 
 -- ---- the values
 
@@ -21,17 +21,17 @@ Margin z = z ! 0 ⊖ Norm (Tail z)
 unfoldable pub UnitShift : List Float → Float → List Float
 UnitShift z α = z ! 0 ⊕ α ∷ Tail z
 
--- unit initialisation sets a vector of n entries to +0, then shifts it by 1
-unfoldable pub UnitVector : ℕ → List Float
-UnitVector n = UnitShift (Constant n 𝟎) 𝟏
+-- unit initialisation gives (1, 0, ..): "sets both vectors to +0, then shifts them by 1" comes to that, `unit-leads`, proofs/Laws
+abbrev pub UnitVector : ℕ → List Float
+UnitVector n = Leading n 𝟏
 
 -- ---- the bare calls
 
-abbrev pub SocMargins : List Float → Came
-SocMargins z = Call (Refusal 2 (length z) []) (margins (Margin z) (Greatest 𝟎 (Margin z))) [] []
+abbrev pub SocMargins : List Float → Came 0 0
+SocMargins z = Call (Refusal 2 (length z) []) (margins (Margin z) (Greatest 𝟎 (Margin z))) tt tt
 
-abbrev pub SocScaledUnitShift : List Float → Float → Came
-SocScaledUnitShift z α = Call (Refusal 2 (length z) []) done (z ∷ []) (UnitShift z α ∷ [])
+abbrev pub SocScaledUnitShift : List Float → Float → Came 1 0
+SocScaledUnitShift z α = Call (Refusal 2 (length z) []) done (z ⨾ tt) (UnitShift z α ⨾ tt)
 
-abbrev pub SocUnitInitialization : List Float → List Float → Came
-SocUnitInitialization z s = Call (Refusal 2 (length z) (length s ∷ [])) done (z ∷ s ∷ []) (UnitVector (length z) ∷ UnitVector (length s) ∷ [])
+abbrev pub SocUnitInitialization : List Float → List Float → Came 2 0
+SocUnitInitialization z s = Call (Refusal 2 (length z) (length s ∷ [])) done (z ⨾ s ⨾ tt) (UnitVector (length z) ⨾ UnitVector (length s) ⨾ tt)

@@ -3,10 +3,10 @@
 use answers::Answer;
 use answers::Margins;
 ghost use mathlib.Core.Path.{_≡_};
-ghost use mathlib.Core.List.{[], _∷_};
+ghost use mathlib.Core.List.{[]};
 ghost use lib.ListN.{length};
 ghost use Rattle.answers.specs.Refusal.{Fit};
-ghost use Rattle.answers.specs.Outcome.{told, toldMargins};
+ghost use Rattle.answers.specs.Outcome.{tells, ofAnswer, ofMargins, _⨾_};
 ghost use Rattle.soc_units.specs.Units.{Margin, UnitShift, UnitVector, SocMargins, SocScaledUnitShift, SocUnitInitialization};
 
 pub fn margin(z: &[f64]) -> f64
@@ -34,7 +34,7 @@ pub fn unit_vector(z: &mut [f64])
 }
 
 pub fn soc_margins(z: &[f64]) -> Margins
-    ensures { λ r. ⌜ toldMargins r ≡ SocMargins (now (z .entry)) ⌝ }
+    ensures { λ r. ⌜ tells (ofMargins r) tt ≡ SocMargins (now (z .entry)) ⌝ }
 {
     let no = answers::refusal(2, z.len(), true);
     if no != 0 {
@@ -46,7 +46,7 @@ pub fn soc_margins(z: &[f64]) -> Margins
 
 // z = z + alpha·(1, 0, ..)
 pub fn soc_scaled_unit_shift(z: &mut [f64], alpha: f64) -> Answer
-    ensures { λ r. ⌜ told r (now (z .exit) ∷ []) ≡ SocScaledUnitShift (now (z .entry)) alpha ⌝ }
+    ensures { λ r. ⌜ tells (ofAnswer r) (now (z .exit) ⨾ tt) ≡ SocScaledUnitShift (now (z .entry)) alpha ⌝ }
 {
     let no = answers::refusal(2, z.len(), true);
     if no != 0 {
@@ -57,7 +57,7 @@ pub fn soc_scaled_unit_shift(z: &mut [f64], alpha: f64) -> Answer
 }
 
 pub fn soc_unit_initialization(z: &mut [f64], s: &mut [f64]) -> Answer
-    ensures { λ r. ⌜ told r (now (z .exit) ∷ now (s .exit) ∷ [])
+    ensures { λ r. ⌜ tells (ofAnswer r) (now (z .exit) ⨾ now (s .exit) ⨾ tt)
         ≡ SocUnitInitialization (now (z .entry)) (now (s .entry)) ⌝ }
 {
     let no = answers::refusal(2, z.len(), s.len() == z.len());

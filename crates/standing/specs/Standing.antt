@@ -30,8 +30,8 @@ NonnegStanding z =
 
 -- ---- the bare calls
 
-abbrev pub SocStands : List Float → Came
-SocStands z = Call (Refusal 2 (length z) []) (stands (SocStanding z)) [] []
+abbrev pub SocStands : List Float → Came 0 0
+SocStands z = Call (Refusal 2 (length z) []) (stands (SocStanding z)) tt tt
 
-abbrev pub NnStands : List Float → Came
-NnStands z = Call (Refusal 0 (length z) []) (stands (NonnegStanding z)) [] []
+abbrev pub NnStands : List Float → Came 0 0
+NnStands z = Call (Refusal 0 (length z) []) (stands (NonnegStanding z)) tt tt

@@ -8,7 +8,7 @@ ghost use lib.ListN.{length};
 ghost use lib.Ieee.{isNan, lt, eq};
 ghost use Rattle.vecmath.specs.Double.{𝟎};
 ghost use Rattle.answers.specs.Refusal.{Fit};
-ghost use Rattle.answers.specs.Outcome.{toldStands};
+ghost use Rattle.answers.specs.Outcome.{tells, ofStands};
 ghost use Rattle.standing.specs.Standing.{Some, SocStanding, NonnegStanding, SocStands, NnStands};
 
 pub fn second_order(z: &[f64]) -> Standing
@@ -75,7 +75,7 @@ pub fn nonnegative(z: &[f64]) -> Standing
 }
 
 pub fn soc_standing(z: &[f64]) -> Stands
-    ensures { λ r. ⌜ toldStands r ≡ SocStands (now (z .entry)) ⌝ }
+    ensures { λ r. ⌜ tells (ofStands r) tt ≡ SocStands (now (z .entry)) ⌝ }
 {
     let no = answers::refusal(2, z.len(), true);
     if no != 0 {
@@ -85,7 +85,7 @@ pub fn soc_standing(z: &[f64]) -> Stands
 }
 
 pub fn nn_standing(z: &[f64]) -> Stands
-    ensures { λ r. ⌜ toldStands r ≡ NnStands (now (z .entry)) ⌝ }
+    ensures { λ r. ⌜ tells (ofStands r) tt ≡ NnStands (now (z .entry)) ⌝ }
 {
     let no = answers::refusal(0, z.len(), true);
     if no != 0 {

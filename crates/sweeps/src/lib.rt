@@ -3,9 +3,11 @@
 use conelist::Place;
 ghost use mathlib.Core.Path.{_≡_};
 ghost use mathlib.Core.List.{[], _∷_};
-ghost use Rattle.list_products.specs.Product.{MulWAt};
-ghost use Rattle.list_scaling.specs.Scaling.{UpdateScalingAt};
-ghost use Rattle.codes.specs.Code.{whole, export, Exported};
+ghost use Rattle.answers.specs.Outcome.{_⨾_};
+ghost use Rattle.conecalls.specs.Deed.{At};
+ghost use Rattle.list_products.specs.Product.{MulWDeed};
+ghost use Rattle.list_scaling.specs.Scaling.{UpdateScalingDeed};
+ghost use Rattle.codes.specs.Code.{whole, export, Values, Exported};
 ghost use Rattle.sweeps.specs.Numbers.{PlaceBy};
 
 fn place(n: [usize; 8]) -> Place
@@ -33,8 +35,8 @@ pub extern "C" fn measured_mul_w_at(
     w: &[f64],
     eta: &[f64],
 ) -> u8
-    ensures { λ r. ⌜ export r [] (now (y .exit) ∷ [])
-        ≡ Exported [] (MulWAt (PlaceBy (now (at .entry))) (now (y .entry)) (now (x .entry)) alpha beta (now (w .entry)) (now (eta .entry))) ⌝ }
+    ensures { λ r. ⌜ export r [] (now (y .exit) ⨾ tt)
+        ≡ Exported Values [] (At (PlaceBy (now (at .entry))) (MulWDeed alpha beta) (now (y .entry)) (now (x .entry)) (now (w .entry)) (now (eta .entry))) ⌝ }
 {
     let p = place(*at);
     codes::answer(list_products::mul_w_at(p, y, x, alpha, beta, w, eta))
@@ -51,14 +53,14 @@ pub extern "C" fn measured_update_scaling_at(
     v: &mut [f64],
     eta: &mut [f64],
     d: &mut [f64],
-    told: &mut u8,
+    truth: &mut u8,
 ) -> u8
-    ensures { λ r. ⌜ export r (whole (now (told .exit)) ∷ []) (now (w .exit) ∷ now (lambda .exit) ∷ now (u .exit) ∷ now (v .exit) ∷ now (eta .exit) ∷ now (d .exit) ∷ [])
-        ≡ Exported (whole (now (told .entry)) ∷ []) (UpdateScalingAt (PlaceBy (now (at .entry))) (now (s .entry)) (now (z .entry)) (now (w .entry)) (now (lambda .entry)) (now (u .entry)) (now (v .entry)) (now (eta .entry)) (now (d .entry))) ⌝ }
+    ensures { λ r. ⌜ export r (whole (now (truth .exit)) ∷ []) (now (w .exit) ⨾ now (lambda .exit) ⨾ now (u .exit) ⨾ now (v .exit) ⨾ now (eta .exit) ⨾ now (d .exit) ⨾ tt)
+        ≡ Exported Values (whole (now (truth .entry)) ∷ []) (At (PlaceBy (now (at .entry))) UpdateScalingDeed (now (w .entry)) (now (lambda .entry)) (now (u .entry)) (now (v .entry)) (now (eta .entry)) (now (d .entry)) (now (s .entry)) (now (z .entry))) ⌝ }
 {
     let p = place(*at);
     codes::scaling(
         list_scaling::update_scaling_at(p, s, z, w, lambda, u, v, eta, d),
-        told,
+        truth,
     )
 }

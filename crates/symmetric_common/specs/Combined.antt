@@ -6,7 +6,7 @@ use lib.ListN.{length}
 use lib.Ieee.{Float, neg}
 use Rattle.vecmath.specs.Double.{𝟎, 𝟏}
 use Rattle.answers.specs.Refusal.{Refusal}
-use Rattle.answers.specs.Outcome.{done, Contents, Came, Call}
+use Rattle.answers.specs.Outcome.{Contents, done, Came, Call, _⨾_}
 use Rattle.soc_units.specs.Units.{UnitShift}
 use Rattle.soc_products.specs.Product.{MulW, MulWinv}
 use Rattle.soc_jordan.specs.Jordan.{Circ}
@@ -16,24 +16,24 @@ use Rattle.nn_jordan.specs.Jordan.{NonnegCirc}
 
 -- ---- the values
 
-unfoldable pub CombinedShift : (step_z step_s : List Float) (σμ : Float) (w : List Float) (η : Float) → Contents
+unfoldable pub CombinedShift : (step_z step_s : List Float) (σμ : Float) (w : List Float) (η : Float) → Contents 3 0
 CombinedShift step_z step_s σμ w η =
     let Δz = MulW step_z step_z 𝟏 𝟎 w η in
     let Δs = MulWinv step_s step_s 𝟏 𝟎 w η in
-    UnitShift (Circ Δs Δz) (neg σμ) ∷ Δz ∷ Δs ∷ []
+    UnitShift (Circ Δs Δz) (neg σμ) ⨾ Δz ⨾ Δs ⨾ tt
 
-unfoldable pub NonnegCombinedShift : (step_z step_s : List Float) (σμ : Float) (w : List Float) → Contents
+unfoldable pub NonnegCombinedShift : (step_z step_s : List Float) (σμ : Float) (w : List Float) → Contents 3 0
 NonnegCombinedShift step_z step_s σμ w =
     let Δz = NonnegMulW step_z step_z 𝟏 𝟎 w in
     let Δs = NonnegMulWinv step_s step_s 𝟏 𝟎 w in
-    NonnegShift (neg σμ) (NonnegCirc Δs Δz) ∷ Δz ∷ Δs ∷ []
+    NonnegShift (neg σμ) (NonnegCirc Δs Δz) ⨾ Δz ⨾ Δs ⨾ tt
 
 -- ---- the bare calls
 
-abbrev pub SocCombinedDsShift : (shift step_z step_s : List Float) (σμ : Float) (w : List Float) (η : Float) → Came
+abbrev pub SocCombinedDsShift : (shift step_z step_s : List Float) (σμ : Float) (w : List Float) (η : Float) → Came 3 0
 SocCombinedDsShift shift step_z step_s σμ w η =
-    Call (Refusal 2 (length shift) (length step_z ∷ length step_s ∷ length w ∷ [])) done (shift ∷ step_z ∷ step_s ∷ []) (CombinedShift step_z step_s σμ w η)
+    Call (Refusal 2 (length shift) (length step_z ∷ length step_s ∷ length w ∷ [])) done (shift ⨾ step_z ⨾ step_s ⨾ tt) (CombinedShift step_z step_s σμ w η)
 
-abbrev pub NnCombinedDsShift : (shift step_z step_s : List Float) (σμ : Float) (w : List Float) → Came
+abbrev pub NnCombinedDsShift : (shift step_z step_s : List Float) (σμ : Float) (w : List Float) → Came 3 0
 NnCombinedDsShift shift step_z step_s σμ w =
-    Call (Refusal 0 (length shift) (length step_z ∷ length step_s ∷ length w ∷ [])) done (shift ∷ step_z ∷ step_s ∷ []) (NonnegCombinedShift step_z step_s σμ w)
+    Call (Refusal 0 (length shift) (length step_z ∷ length step_s ∷ length w ∷ [])) done (shift ⨾ step_z ⨾ step_s ⨾ tt) (NonnegCombinedShift step_z step_s σμ w)

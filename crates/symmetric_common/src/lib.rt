@@ -5,12 +5,12 @@ ghost use mathlib.Core.Path.{_≡_};
 ghost use mathlib.Core.List.{[], _∷_};
 ghost use lib.ListN.{length};
 ghost use Rattle.answers.specs.Refusal.{Fit};
-ghost use Rattle.answers.specs.Outcome.{told};
+ghost use Rattle.answers.specs.Outcome.{tells, ofAnswer, _⨾_};
 ghost use Rattle.symmetric_common.specs.Combined.{CombinedShift, NonnegCombinedShift, SocCombinedDsShift, NnCombinedDsShift};
 
 // ---- second-order
 
-pub fn soc_combined(
+pub fn second_order_shift(
     shift: &mut [f64],
     step_z: &mut [f64],
     step_s: &mut [f64],
@@ -19,7 +19,7 @@ pub fn soc_combined(
     eta: f64,
 )
     requires { ⌜ Fit 2 (length (now shift)) (length (now «step_z») ∷ length (now «step_s») ∷ length (now w) ∷ []) ⌝ }
-    ensures { λ _. ⌜ now (shift .exit) ∷ now («step_z» .exit) ∷ now («step_s» .exit) ∷ []
+    ensures { λ _. ⌜ now (shift .exit) ⨾ now («step_z» .exit) ⨾ now («step_s» .exit) ⨾ tt
         ≡ CombinedShift (now («step_z» .entry)) (now («step_s» .entry)) «sigma_mu» (now (w .entry)) eta ⌝ }
 {
     // Δz ← WΔz
@@ -41,7 +41,7 @@ pub fn soc_combined_ds_shift(
     w: &[f64],
     eta: &f64,
 ) -> Answer
-    ensures { λ r. ⌜ told r (now (shift .exit) ∷ now («step_z» .exit) ∷ now («step_s» .exit) ∷ [])
+    ensures { λ r. ⌜ tells (ofAnswer r) (now (shift .exit) ⨾ now («step_z» .exit) ⨾ now («step_s» .exit) ⨾ tt)
         ≡ SocCombinedDsShift (now (shift .entry)) (now («step_z» .entry)) (now («step_s» .entry)) «sigma_mu» (now (w .entry))
         (now (eta .entry)) ⌝ }
 {
@@ -52,13 +52,13 @@ pub fn soc_combined_ds_shift(
     if no != 0 {
         return Answer::Refused(no);
     }
-    soc_combined(shift, step_z, step_s, sigma_mu, w, *eta);
+    second_order_shift(shift, step_z, step_s, sigma_mu, w, *eta);
     Answer::Done
 }
 
 // ---- nonnegative
 
-pub fn nn_combined(
+pub fn nonnegative_shift(
     shift: &mut [f64],
     step_z: &mut [f64],
     step_s: &mut [f64],
@@ -66,7 +66,7 @@ pub fn nn_combined(
     w: &[f64],
 )
     requires { ⌜ Fit 0 (length (now shift)) (length (now «step_z») ∷ length (now «step_s») ∷ length (now w) ∷ []) ⌝ }
-    ensures { λ _. ⌜ now (shift .exit) ∷ now («step_z» .exit) ∷ now («step_s» .exit) ∷ []
+    ensures { λ _. ⌜ now (shift .exit) ⨾ now («step_z» .exit) ⨾ now («step_s» .exit) ⨾ tt
         ≡ NonnegCombinedShift (now («step_z» .entry)) (now («step_s» .entry)) «sigma_mu» (now (w .entry)) ⌝ }
 {
     // Δz ← WΔz
@@ -87,7 +87,7 @@ pub fn nn_combined_ds_shift(
     sigma_mu: f64,
     w: &[f64],
 ) -> Answer
-    ensures { λ r. ⌜ told r (now (shift .exit) ∷ now («step_z» .exit) ∷ now («step_s» .exit) ∷ [])
+    ensures { λ r. ⌜ tells (ofAnswer r) (now (shift .exit) ⨾ now («step_z» .exit) ⨾ now («step_s» .exit) ⨾ tt)
         ≡ NnCombinedDsShift (now (shift .entry)) (now («step_z» .entry)) (now («step_s» .entry)) «sigma_mu» (now (w .entry)) ⌝ }
 {
     let same = (step_z.len() == shift.len())
@@ -97,6 +97,6 @@ pub fn nn_combined_ds_shift(
     if no != 0 {
         return Answer::Refused(no);
     }
-    nn_combined(shift, step_z, step_s, sigma_mu, w);
+    nonnegative_shift(shift, step_z, step_s, sigma_mu, w);
     Answer::Done
 }

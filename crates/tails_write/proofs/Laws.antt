@@ -1,8 +1,8 @@
 -- Two axpby one after the other, entry by entry. Assumes nothing.
 use Prim.Native.Nat.{ℕ, zero, suc, _<_}
 use native.Mathlib.Omega.{arith}
-use mathlib.Core.Path.{_≡_, refl, sym, ap, _∙_}
-use mathlib.Core.List.{List, _∷_, [], _++_}
+use mathlib.Core.Path.{_≡_, refl, ap}
+use mathlib.Core.List.{List}
 use lib.ListN.{length}
 use lib.Ieee.{Float, nan}
 use Rattle.vecmath.specs.Double.{_⊕_, _⊗_, 𝟏, _!_}

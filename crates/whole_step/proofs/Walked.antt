@@ -12,19 +12,20 @@ use lib.ListN.{length, getD}
 use lib.Ieee.{Float}
 use Rattle.extrema.specs.Extrema.{Least}
 use Rattle.vecmath.specs.Vector.{Fold}
+use Rattle.walks.specs.Records.{noCone, OverRecords}
+use Rattle.walks.proofs.Indexed.{fold-first, by-index}
 use Rattle.vecmath.proofs.Loops.{fold-same}
 use Rattle.answers.specs.Refusal.{_⊳_, Unlike, BadLimit}
-use Rattle.answers.specs.Outcome.{Reply, lengths, Contents, Call}
+use Rattle.answers.specs.Outcome.{Reply, lengths, Came, Call}
 use Rattle.answers.proofs.Laws.{clear-both, clear-lengths, first-left, lengths-are}
 use Rattle.ordering.proofs.Listed.{list-loop}
 use Rattle.conelist.specs.declared.Cone.{Cone}
 use Rattle.conelist.specs.Layout.{Dim, KindAt, Before, BadRecord, BadRecords, AllFit}
-use Rattle.conewalk.specs.Walk.{noCone}
 use Rattle.conewalk.proofs.Walked.{before-cons}
 use Rattle.conelist.proofs.Placed.{all-fit}
 use Rattle.whole_step.specs.List.{BadList, Entries, StepOfCone, ListStepLength}
 use Rattle.whole_step.specs.declared.Walk.{Walk}
-use Rattle.whole_step.specs.Walk.{Opening, Taken, Short, Onward, Further, Closing}
+use Rattle.whole_step.specs.Walk.{StepOpening, Taken, Short, Onward, StepFurther, StepClosing}
 
 -- ---- the records, by their index
 
@@ -32,12 +33,6 @@ kind-at : (cs : List Cone) (k : ℕ) → getD cs k noCone .kind ≡ KindAt cs k
 kind-at [] k = refl
 kind-at (c ∷ cs) zero = refl
 kind-at (c ∷ cs) (suc k) = kind-at cs k
-
--- a fold from its first turn on
-fold-first : {A : Type 0} (n : ℕ) (a : A) (step : ℕ → A → A) → Fold (suc n) a step ≡ Fold n (step 0 a) (λ k. step (suc k))
-unfolding Fold
-fold-first zero a step = refl
-fold-first (suc n) a step = ap (step (suc n)) (fold-first n a step)
 
 first-assoc : (a b c : ℕ) → (a ⊳ b) ⊳ c ≡ a ⊳ b ⊳ c
 unfolding _⊳_
@@ -70,26 +65,26 @@ module _ (cs : List Cone) (dz ds z s : List Float) (αmax : Float) where
   Bad i = Fold i (cond (ltb 256 (length cs)) 2 0) (λ k no. no ⊳ BadRecord (Before Dim cs k) (getD cs k noCone))
 
   abbrev Side : List Float → List Float → ℕ → Float
-  Side dy y i = Fold i αmax (λ k a. Least a (StepOfCone Least cs dy y k αmax))
+  Side dy y i = Fold i αmax (λ k a. Least a (StepOfCone Least cs y dy k αmax))
 
   -- no slice ends before n entries
   abbrev Long : ℕ → Type 0
   Long n = (n ≤ length dz) × (n ≤ length ds) × (n ≤ length z) × (n ≤ length s)
 
-  record Behind (i : ℕ) (w : Walk) : Type 0 where
+  record Underway (i : ℕ) (w : Walk) : Type 0 where
     refusal : w .no ≡ Bad i
     entries : w .no ≡ 0 → w .total ≡ Before Dim cs i
     least : w .no ≡ 0 → Long (Before Dim cs i) → (w .z ≡ Side dz z i) × (w .s ≡ Side ds s i)
 
-  behind-start : Behind 0 (Opening (length cs) αmax)
-  unfolding Opening Fold
+  behind-start : Underway 0 (StepOpening (length cs) αmax)
+  unfolding StepOpening Fold
   behind-start = record { refusal = refl; entries = λ e. refl; least = λ e l. (refl, refl) }
 
   not-short : (n : ℕ) → Long n → Short dz ds z s n ≡ false
   not-short n l = rw (le-ltb (length dz) n (l .0), le-ltb (length ds) n (l .1), le-ltb (length z) n (l .2), le-ltb (length s) n (l .3))
 
-  behind-turn : (i : ℕ) (w : Walk) → Behind i w → Behind (suc i) (Further w (getD cs i noCone) dz ds z s αmax)
-  unfolding Further Fold _⊳_ Taken
+  behind-turn : (i : ℕ) (w : Walk) → Underway i w → Underway (suc i) (StepFurther w (getD cs i noCone) dz ds z s αmax)
+  unfolding StepFurther Fold _⊳_ Taken
   behind-turn i w h = go (w .no) (BadRecord (w .total) c) refl refl
     where
       c : Cone
@@ -111,7 +106,7 @@ module _ (cs : List Cone) (dz ds z s : List Float) (αmax : Float) where
       next-s : w .no ≡ 0 → Long (Before Dim cs (suc i)) → Taken w (c .kind) dz ds z s αmax .s ≡ Side ds s (suc i)
       next-s e l = rw (h .least e (before l) .1, h .entries e, kind-at cs i)
 
-      go : (n m : ℕ) → w .no ≡ n → BadRecord (w .total) c ≡ m → Behind (suc i) (cond (eqb n 0) (Onward m w (c .kind) dz ds z s αmax) w)
+      go : (n m : ℕ) → w .no ≡ n → BadRecord (w .total) c ≡ m → Underway (suc i) (cond (eqb n 0) (Onward m w (c .kind) dz ds z s αmax) w)
       go (suc n) m e f =
           let on : Bad i ≡ 0 → ⊥ = λ q. let r : _≡_ {A = ℕ} 0 (suc n) = sym q ∙ sym (h .refusal) ∙ e in omega arith in
           let off : w .no ≡ 0 → ⊥ = λ q. let r : _≡_ {A = ℕ} 0 (suc n) = sym q ∙ e in omega arith in
@@ -120,27 +115,27 @@ module _ (cs : List Cone) (dz ds z s : List Float) (αmax : Float) where
       go zero zero e f = by-length (Short dz ds z s (w .total + Dim (c .kind))) refl
         where
           by-length : (t : Bool) → Short dz ds z s (w .total + Dim (c .kind)) ≡ t
-              → Behind (suc i) (cond t (record { no = 0; total = w .total + Dim (c .kind); z = w .z; s = w .s }) (Taken w (c .kind) dz ds z s αmax))
+              → Underway (suc i) (cond t (record { no = 0; total = w .total + Dim (c .kind); z = w .z; s = w .s }) (Taken w (c .kind) dz ds z s αmax))
           by-length true q = record { refusal = sym f ∙ met e; entries = λ _. past e; least = λ _ l. absurd (true≢false (sym q ∙ ap (Short dz ds z s) (past e) ∙ not-short _ l)) }
           by-length false q = record { refusal = sym f ∙ met e; entries = λ _. past e; least = λ _ l. (next-z e l, next-s e l) }
 
   abbrev pub After : ℕ → Walk
-  After i = Fold i (Opening (length cs) αmax) (λ k w. Further w (getD cs k noCone) dz ds z s αmax)
+  After i = Fold i (StepOpening (length cs) αmax) (λ k w. StepFurther w (getD cs k noCone) dz ds z s αmax)
 
-  pub after-none : After 0 ≡ Opening (length cs) αmax
+  pub after-none : After 0 ≡ StepOpening (length cs) αmax
   unfolding Fold
   after-none = refl
 
-  pub after-turn : (i : ℕ) (w w′ : Walk) → w ≡ After i → w′ ≡ Further w (getD cs i noCone) dz ds z s αmax → w′ ≡ After (i + 1)
+  pub after-turn : (i : ℕ) (w w′ : Walk) → w ≡ After i → w′ ≡ StepFurther w (getD cs i noCone) dz ds z s αmax → w′ ≡ After (i + 1)
   unfolding Fold
   after-turn i w w′ e f = f ∙ rw (e, add-one i)
 
-  behind : (i : ℕ) → Behind i (After i)
+  behind : (i : ℕ) → Underway i (After i)
   unfolding Fold
   behind zero = behind-start
   behind (suc i) = behind-turn i (After i) (behind i)
 
-  same-call : (k : ℕ) (v v′ : Reply) (old : Contents) → (k ≡ 0 → v ≡ v′) → Call k v old old ≡ Call k v′ old old
+  same-call : (k : ℕ) (v v′ : Reply) (old : Unit {0}) → (k ≡ 0 → v ≡ v′) → Call k v old old ≡ Call k v′ old old
   unfolding Call
   same-call zero v v′ old h = rw (h refl)
   same-call (suc k) v v′ old h = refl
@@ -149,7 +144,7 @@ module _ (cs : List Cone) (dz ds z s : List Float) (αmax : Float) where
   abbrev Fitting : ℕ → List (ℕ × ℕ)
   Fitting n = (length dz, n) ∷ (length ds, n) ∷ (length z, n) ∷ (length s, n) ∷ []
 
-  pub walked : Closing (After (length cs)) dz ds z s αmax ≡ ListStepLength cs dz ds z s αmax
+  pub walked : StepClosing (After (length cs)) dz ds z s αmax ≡ ListStepLength cs dz ds z s αmax
   unfolding _⊳_
   walked = go (After (length cs)) (behind (length cs))
     where
@@ -157,15 +152,19 @@ module _ (cs : List Cone) (dz ds z s : List Float) (αmax : Float) where
       bad = fold-same (length cs) _ _ _ (λ k no l. ap (λ (t : ℕ). no ⊳ BadRecord t (getD cs k noCone)) (sym (zero-add (Before Dim cs k)))) ∙ records cs 0 (cond (ltb 256 (length cs)) 2 0)
 
       -- up to the lengths
-      numbers : (w : Walk) → Behind (length cs) w → (n : ℕ) → w .no ≡ n → n ⊳ Unlike (AllFit (Fitting (w .total))) ≡ n ⊳ Unlike (AllFit (Fitting (Entries cs)))
+      numbers : (w : Walk) → Underway (length cs) w → (n : ℕ) → w .no ≡ n → n ⊳ Unlike (AllFit (Fitting (w .total))) ≡ n ⊳ Unlike (AllFit (Fitting (Entries cs)))
       numbers w h zero e = ap (λ (n : ℕ). Unlike (AllFit (Fitting n))) (h .entries e)
       numbers w h (suc n) e = refl
 
-      go : (w : Walk) → Behind (length cs) w → Closing w dz ds z s αmax ≡ ListStepLength cs dz ds z s αmax
+      go : (w : Walk) → Underway (length cs) w → StepClosing w dz ds z s αmax ≡ ListStepLength cs dz ds z s αmax
       go w h =
-          ap (λ (k : ℕ). Call {B = Contents} (k ⊳ BadLimit αmax) (lengths (w .z) (w .s)) [] []) (numbers w h (w .no) refl ∙ ap (λ (n : ℕ). n ⊳ Unlike (AllFit (Fitting (Entries cs)))) (h .refusal ∙ bad))
-          ∙ same-call _ _ _ [] (λ e.
+          ap (λ (k : ℕ). Call (k ⊳ BadLimit αmax) (lengths (w .z) (w .s)) tt tt) (numbers w h (w .no) refl ∙ ap (λ (n : ℕ). n ⊳ Unlike (AllFit (Fitting (Entries cs)))) (h .refusal ∙ bad))
+          ∙ same-call _ _ _ tt (λ e.
           let r = clear-both _ _ (clear-both _ _ e .0) in
           let f = all-fit (Fitting (Entries cs)) (clear-lengths _ (r .1)) in
           let l = h .least (h .refusal ∙ bad ∙ r .0) (omega (arith, f .0), omega (arith, f .1 .0), omega (arith, f .1 .1 .0), omega (arith, f .1 .1 .1 .0)) in
-          lengths-are (l .0 ∙ sym (list-loop Least αmax (StepOfCone Least cs dz z) (length cs))) (l .1 ∙ sym (list-loop Least αmax (StepOfCone Least cs ds s) (length cs))))
+          lengths-are (l .0 ∙ sym (list-loop Least αmax (StepOfCone Least cs z dz) (length cs))) (l .1 ∙ sym (list-loop Least αmax (StepOfCone Least cs s ds) (length cs))))
+
+-- what tools/proof takes from here for `list_step_length`
+pub list-step-length-closes : (cs : List Cone) (dz ds z s : List Float) (αmax : Float) {came : Came 0 0} → came ≡ StepClosing (OverRecords (λ w c. StepFurther w c dz ds z s αmax) cs (StepOpening (length cs) αmax)) dz ds z s αmax → came ≡ ListStepLength cs dz ds z s αmax
+list-step-length-closes cs dz ds z s αmax e = e ∙ ap (λ (w : Walk). StepClosing w dz ds z s αmax) (by-index (λ w c. StepFurther w c dz ds z s αmax) cs (StepOpening (length cs) αmax)) ∙ walked cs dz ds z s αmax

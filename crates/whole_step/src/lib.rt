@@ -7,9 +7,9 @@ use conelist::Cone;
 use conelist::Kind;
 ghost use mathlib.Core.Path.{_≡_};
 ghost use Rattle.answers.specs.Refusal.{_⊳_, Unlike, BadLimit};
-ghost use Rattle.answers.specs.Outcome.{toldSteps};
+ghost use Rattle.answers.specs.Outcome.{tells, ofSteps};
 ghost use Rattle.whole_step.specs.List.{ListStepLength};
-ghost use Rattle.whole_step.specs.Walk.{Opening, Reached, Taken, Further, Closing};
+ghost use Rattle.whole_step.specs.Walk.{StepOpening, Reached, Taken, StepFurther, StepClosing};
 
 // A walk on its way: the refusal that it met (0: none), the entries behind it, and each side's least so far.
 pub struct Walk {
@@ -20,8 +20,8 @@ pub struct Walk {
 }
 
 // Before the first of so many records.
-pub fn opening(cones: usize, limit: f64) -> Walk
-    ensures { λ r. ⌜ r ≡ Opening cones limit ⌝ }
+pub fn step_opening(cones: usize, limit: f64) -> Walk
+    ensures { λ r. ⌜ r ≡ StepOpening cones limit ⌝ }
 {
     Walk {
         no: if 256 < cones { 2 } else { 0 },
@@ -56,8 +56,16 @@ fn taken(w: Walk, kind: Kind, dz: &[f64], ds: &[f64], z: &[f64], s: &[f64], limi
 
 // Over one record more. Where a slice ends before the cone does, no step is taken: the call is then refused for that slice's length in the end, or
 // for a later record, which ranks before.
-pub fn further(w: Walk, c: Cone, dz: &[f64], ds: &[f64], z: &[f64], s: &[f64], limit: f64) -> Walk
-    ensures { λ r. ⌜ r ≡ Further w c (now (dz .entry)) (now (ds .entry)) (now (z .entry)) (now (s .entry)) limit ⌝ }
+pub fn step_further(
+    w: Walk,
+    c: Cone,
+    dz: &[f64],
+    ds: &[f64],
+    z: &[f64],
+    s: &[f64],
+    limit: f64,
+) -> Walk
+    ensures { λ r. ⌜ r ≡ StepFurther w c (now (dz .entry)) (now (ds .entry)) (now (z .entry)) (now (s .entry)) limit ⌝ }
 {
     if w.no != 0 {
         return w;
@@ -96,8 +104,8 @@ fn refusal(no: u8, same: bool, limit: f64) -> u8
 }
 
 // Behind the last record.
-pub fn closing(w: Walk, dz: &[f64], ds: &[f64], z: &[f64], s: &[f64], limit: f64) -> Steps
-    ensures { λ r. ⌜ toldSteps r ≡ Closing w (now (dz .entry)) (now (ds .entry)) (now (z .entry)) (now (s .entry)) limit ⌝ }
+pub fn step_closing(w: Walk, dz: &[f64], ds: &[f64], z: &[f64], s: &[f64], limit: f64) -> Steps
+    ensures { λ r. ⌜ tells (ofSteps r) tt ≡ StepClosing w (now (dz .entry)) (now (ds .entry)) (now (z .entry)) (now (s .entry)) limit ⌝ }
 {
     let total = w.total;
     let same = (dz.len() == total) & (ds.len() == total) & (z.len() == total) & (s.len() == total);
@@ -117,13 +125,13 @@ pub fn list_step_length(
     s: &[f64],
     limit: f64,
 ) -> Steps
-    ensures { λ r. ⌜ toldSteps r ≡ ListStepLength (now (list .entry)) (now (dz .entry)) (now (ds .entry)) (now (z .entry)) (now (s .entry)) limit ⌝ }
+    ensures { λ r. ⌜ tells (ofSteps r) tt ≡ ListStepLength (now (list .entry)) (now (dz .entry)) (now (ds .entry)) (now (z .entry)) (now (s .entry)) limit ⌝ }
 {
-    let mut w = opening(list.len(), limit);
+    let mut w = step_opening(list.len(), limit);
     let mut i: usize = 0;
     while i < list.len() {
-        w = further(w, list[i], dz, ds, z, s, limit);
+        w = step_further(w, list[i], dz, ds, z, s, limit);
         i += 1;
     }
-    closing(w, dz, ds, z, s, limit)
+    step_closing(w, dz, ds, z, s, limit)
 }

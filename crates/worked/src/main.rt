@@ -110,16 +110,16 @@ fn line_nn_standing(of: &[u8], z: &[f64]) {
     show::newline();
 }
 
-// The answer; then eta, w and lambda, which was (7, 7).
+// The answer; then eta, w, which was (9, 9), and lambda, which was (7, 7).
 fn line_scaling(of: &[u8], s: &[f64], z: &[f64]) {
     show::label(of);
-    let mut w = [0.0; 2];
+    let mut w = [9.0; 2];
     let mut lambda = [7.0; 2];
-    let mut u = [0.0; 2];
-    let mut v = [0.0; 2];
+    let mut u = [5.0; 2];
+    let mut v = [3.0; 2];
     let mut eta = 0.0;
     let mut d = 1.0;
-    let told = soc_scaling::soc_update_scaling(
+    let came = soc_scaling::soc_update_scaling(
         s,
         z,
         &mut w,
@@ -129,8 +129,8 @@ fn line_scaling(of: &[u8], s: &[f64], z: &[f64]) {
         &mut eta,
         &mut d,
     );
-    match told {
-        Scaling::Told(t) => {
+    match came {
+        Scaling::Truth(t) => {
             if t {
                 show::text(b"true");
             } else {
@@ -145,8 +145,8 @@ fn line_scaling(of: &[u8], s: &[f64], z: &[f64]) {
     show::newline();
 }
 
-fn step(told: Step) {
-    match told {
+fn step(came: Step) {
+    match came {
         Step::Length(a) => show::number(a),
         Step::Refused(no) => show::refused(no),
     }

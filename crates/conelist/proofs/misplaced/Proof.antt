@@ -7,5 +7,5 @@ use Rattle.conelist.proofs.misplaced.Tie as tie
 pub misplaced-spec : {M : Type 1} → statement M
 misplaced-spec =
     tie.close (tie.spec
-    (λ c κs. search needs) (λ c κs. search needs) (λ c κs. search needs) (λ c κs. search needs) (λ c κs. search needs)
+    (λ c κs. search needs) (λ c κs. search needs) (λ c κs. search needs) (λ c κs. search needs) (λ c κs. search needs) (λ c κs. search needs)
     (λ c. search spots) (λ c. search spots))

@@ -2,7 +2,7 @@
 use native.Mathlib.Omega.{arith}
 use mathlib.Core.Path.{sym, ap, _∙_}
 use borrow.Author.Needs.{needs}
-use Rattle.soc_blocks.specs.Block.{BlockLength}
+use Rattle.answers.specs.Refusal.{BlockLength}
 use Rattle.list_blocks.specs.Block.{KindHs}
 use Rattle.list_blocks.proofs.Laws.{nonnegative-block, second-order-block}
 use Rattle.list_blocks.proofs.kind_hs.Statement.{statement}

@@ -2,10 +2,11 @@
 use mathlib.Core.Path.{refl}
 use mathlib.Core.List.{[], _∷_}
 use borrow.Author.Needs.{needs}
+use Rattle.answers.specs.Outcome.{_⨾_}
 use Rattle.conelist.proofs.Placed.{lent}
-use Rattle.conecalls.specs.At.{entries}
 use Rattle.conecalls.proofs.Ranges.{ranges, cuts-fit}
-use Rattle.conecalls.proofs.Back.{backs}
+use Rattle.conecalls.proofs.Return.{backs}
+use Rattle.list_combined.specs.Combined.{CombinedDsShiftDeed}
 use Rattle.list_combined.proofs.combined_in.Statement.{statement}
 use Rattle.list_combined.proofs.combined_in.Tie as tie
 
@@ -26,4 +27,5 @@ combined-in-spec =
     let dim = kernel .before .before .before .before .before .before in
     let long = dim .dim .ensures in
     let a = dim .before .before .before .before .before .before .args in
-    backs (a .p) long refl ((entries, a .shift .now) ∷ (entries, a .step-z .now) ∷ (entries, a .step-s .now) ∷ []) (simp (lent long) at (kernel .kind-combined .ensures))))
+    backs (a .p) long refl (CombinedDsShiftDeed (a .sigma-mu) .writes) (a .shift .now ⨾ a .step-z .now ⨾ a .step-s .now ⨾ tt)
+    (simp (lent long) at (kernel .kind-combined .ensures))))

@@ -2,10 +2,11 @@
 use mathlib.Core.Path.{refl}
 use mathlib.Core.List.{[], _∷_}
 use borrow.Author.Needs.{needs}
+use Rattle.answers.specs.Outcome.{_⨾_}
 use Rattle.conelist.proofs.Placed.{lent}
-use Rattle.conecalls.specs.At.{entries, number}
 use Rattle.conecalls.proofs.Ranges.{ranges, cuts-fit}
-use Rattle.conecalls.proofs.Back.{backs}
+use Rattle.conecalls.proofs.Return.{backs}
+use Rattle.list_identity.specs.Identity.{SetIdentityScalingDeed}
 use Rattle.list_identity.proofs.identity_in.Statement.{statement}
 use Rattle.list_identity.proofs.identity_in.Tie as tie
 
@@ -26,5 +27,5 @@ identity-in-spec =
     let dim = kernel .before .before .before .before .before .before in
     let long = dim .dim .ensures in
     let a = dim .before .before .before .before .before .before .args in
-    backs (a .p) long refl ((entries, a .w .now) ∷ (entries, a .u .now) ∷ (entries, a .v .now) ∷ (number, a .eta .now) ∷ (number, a .d .now) ∷ [])
+    backs (a .p) long refl (SetIdentityScalingDeed .writes) (a .w .now ⨾ a .u .now ⨾ a .v .now ⨾ a .eta .now ⨾ a .d .now ⨾ tt)
     (simp (lent long) at (kernel .kind-identity .ensures))))

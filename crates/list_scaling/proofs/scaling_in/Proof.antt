@@ -2,10 +2,11 @@
 use mathlib.Core.Path.{refl}
 use mathlib.Core.List.{[], _∷_}
 use borrow.Author.Needs.{needs}
+use Rattle.answers.specs.Outcome.{_⨾_}
 use Rattle.conelist.proofs.Placed.{lent}
-use Rattle.conecalls.specs.At.{entries, number}
 use Rattle.conecalls.proofs.Ranges.{ranges, cuts-fit}
-use Rattle.conecalls.proofs.Back.{does-back}
+use Rattle.conecalls.proofs.Return.{works}
+use Rattle.list_scaling.specs.Scaling.{UpdateScalingDeed}
 use Rattle.list_scaling.proofs.scaling_in.Statement.{statement}
 use Rattle.list_scaling.proofs.scaling_in.Tie as tie
 
@@ -27,5 +28,5 @@ scaling-in-spec =
     let dim = kernel .before .before .before .before .before .before .before .before .before in
     let long = dim .dim .ensures in
     let a = dim .before .before .before .before .before .before .before .before .before .args in
-    does-back (a .p) long refl ((entries, a .w .now) ∷ (entries, a .lambda .now) ∷ (entries, a .u .now) ∷ (entries, a .v .now) ∷ (number, a .eta .now) ∷ (number, a .d .now) ∷ [])
+    works (a .p) long refl (UpdateScalingDeed .writes) (a .w .now ⨾ a .lambda .now ⨾ a .u .now ⨾ a .v .now ⨾ a .eta .now ⨾ a .d .now ⨾ tt)
     (simp (lent long) at (kernel .kind-scaling .ensures))))

@@ -1,7 +1,7 @@
 -- `list_units::unit_initialization_in` meets its contract. Assumes nothing.
 use mathlib.Core.Path.{refl}
 use borrow.Author.Needs.{needs}
-use Rattle.answers.proofs.Laws.{one-more}
+use Rattle.answers.proofs.Laws.{and-more}
 use Rattle.conelist.proofs.Placed.{lent, back}
 use Rattle.list_units.proofs.unit_initialization_in.Statement.{statement}
 use Rattle.list_units.proofs.unit_initialization_in.Tie as tie
@@ -14,4 +14,4 @@ unit-initialization-in-spec =
     let second = c .before .before in
     let first = second .before .before .before .before in
     let long = first .before .before .dim .ensures in
-    one-more (back long _ _ (simp (lent long) at (first .kind-unit .ensures))) (one-more (back long _ _ (simp (lent long) at (second .kind-unit2 .ensures))) refl)))
+    and-more (back long _ _ (simp (lent long) at (first .kind-unit .ensures))) (and-more (back long _ _ (simp (lent long) at (second .kind-unit2 .ensures))) refl)))

@@ -9,7 +9,7 @@ pub step-spec : {M : Type 1} → statement M
 unfolding NonnegStep
 step-spec =
     tie.close (tie.spec
-    (λ x y limit alpha₀ i₀ alpha i. Folded (length y) limit (λ k α. Shorter Least (y ! k) (x ! k) α) i alpha)
+    (λ x y limit alpha₀ i₀ alpha i. Folded (length y) limit (λ k α. Shorter Least (x ! k) (y ! k) α) i alpha)
     (λ x y limit alpha₀ i₀ alpha i. length y - i)
     (λ c. search loops) (λ c. search loops) (λ c. search loops) (λ c. search loops) (λ c. search loops)
     (λ c κs. search loops) (λ c. search loops) (λ c. search loops) (λ c. search loops) (λ c. search loops))

@@ -10,7 +10,7 @@ pub step-length-spec : {M : Type 1} → statement M
 unfolding NonnegStep
 step-length-spec =
     tie.close (tie.spec
-    (λ dz ds z s limit αz₀ αs₀ i₀ αz αs i. Folded (length dz) limit (λ k α. Shorter Least (dz ! k) (z ! k) α) i αz × Folded (length dz) limit (λ k α. Shorter Least (ds ! k) (s ! k) α) i αs)
+    (λ dz ds z s limit αz₀ αs₀ i₀ αz αs i. Folded (length dz) limit (λ k α. Shorter Least (z ! k) (dz ! k) α) i αz × Folded (length dz) limit (λ k α. Shorter Least (s ! k) (ds ! k) α) i αs)
     (λ dz ds z s limit αz₀ αs₀ i₀ αz αs i. length dz - i)
     (λ c. search loops) (λ c. search loops) (λ c. search loops) (λ c. search loops) (λ c. search loops)
     (λ c κs. search loops) (λ c. search loops) (λ c. search loops) (λ c. search loops) (λ c. search loops)

@@ -3,12 +3,10 @@ use native.Mathlib.Omega.{arith}
 use native.Mathlib.Nat.{mul-le-mul-left}
 use borrow.Author.Needs.{needs}
 use borrow.Author.Tests.{lt-ltb, le-ltb}
-use Rattle.soc_blocks.specs.Block.{BlockLength}
 use Rattle.soc_blocks.proofs.block_length.Statement.{statement}
 use Rattle.soc_blocks.proofs.block_length.Tie as tie
 
 pub block-length-spec : {M : Type 1} → statement M
-unfolding BlockLength
 block-length-spec =
     tie.close (tie.spec
     (λ c. search needs)

@@ -1,6 +1,6 @@
 -- `soc_identity::leading` meets its contract. Assumes nothing.
 use borrow.Author.Needs.{needs}
-use Rattle.soc_identity.specs.Identity.{Leading}
+use Rattle.tails.specs.Tail.{Leading}
 use Rattle.soc_identity.proofs.leading.Statement.{statement}
 use Rattle.soc_identity.proofs.leading.Tie as tie
 
