@@ -1,4 +1,4 @@
-/* A scaling, a product, a step and a refusal, of one cone and of a list, from C. examples/run builds and runs it. */
+/* A fresh state, a scaling, a product, a step and a refusal, of one cone and of a list, from C. examples/run builds and runs it. */
 #include <stdio.h>
 
 #include "akmuzrel.h"
@@ -15,13 +15,17 @@ static void print(const char *name, const double *x, size_t n) {
 
 int main(void) {
     const double s[N] = {5, 3, 0}, z[N] = {5, -3, 0}, ds[N] = {-1, 2, 0}, dz[N] = {1, 0, 2};
-    double w[N], lambda[N], u[N] = {0}, v[N] = {0}, eta, d = 1;
-    uint8_t told, standing;
+    double w[N], lambda[N], u[N], v[N], eta, d;
+    uint8_t truth, standing;
+
+    akm_fresh_state(w, N, lambda, N, u, N, v, N, &eta, 1, &d, 1);
+    print("fresh w", w, N);
+    print("fresh d", &d, 1);
 
     akm_soc_standing(s, N, &standing);
     printf("s is %s\n", standings[standing]);
 
-    if (akm_soc_update_scaling(s, N, z, N, w, N, lambda, N, u, N, v, N, &eta, &d, &told) != AKM_DONE || !told) return 1;
+    if (akm_soc_update_scaling(s, N, z, N, w, N, lambda, N, u, N, v, N, &eta, &d, &truth) != AKM_DONE || !truth) return 1;
     print("eta", &eta, 1);
     print("w", w, N);
     print("lambda", lambda, N);

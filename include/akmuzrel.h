@@ -1,5 +1,6 @@
 /* The cone kernels for C: every bare call of the second-order cone (akm_soc_..) and of the nonnegative
-   cone (akm_nn_..), every call on a list of cones (akm_list_..), and three operations on numbers.
+   cone (akm_nn_..), every call on a list of cones (akm_list_..), a fresh state, and three operations on
+   numbers.
    `tools/library LIB.a` proves what stands here and writes the library to link.
 
    A vector is a pointer and its length. A call takes any lengths and any numbers, NaN included. Its
@@ -48,6 +49,15 @@ double akm_sqrt(double x);                /* the double nearest the root */
 double akm_least(double a, double b);     /* a NaN counts as missing; of two opposite zeros the first */
 double akm_greatest(double a, double b);
 
+/* ---- a fresh state
+
+   What is stored from call to call is w, lambda, u, v, eta and d, for one cone or for a list. Before the
+   first call w, lambda, u, v and eta are +0 throughout and d is 1 throughout; this call makes it so. Each
+   vector is filled by itself, whatever its length, so nothing is refused; of one cone eta and d are vectors
+   of one number. (u and v must not be left as they come: a scaling adds 0 times what they held, and 0 times
+   a NaN or an infinity is a NaN.) */
+void akm_fresh_state(double *w, size_t w_len, double *lambda, size_t lambda_len, double *u, size_t u_len, double *v, size_t v_len, double *eta, size_t eta_len, double *d, size_t d_len);
+
 /* ---- second-order: residuals, margins, unit */
 
 /* value = (z0 - |z1|) * (z0 + |z1|), z1 the entries from 1 on */
@@ -69,8 +79,10 @@ uint8_t akm_soc_standing(const double *z, size_t z_len, uint8_t *standing);
    dense, keeps u, v and d as they are. */
 
 uint8_t akm_soc_set_identity_scaling(double *w, size_t w_len, double *u, size_t u_len, double *v, size_t v_len, double *eta, double *d);
-/* told = 1, or 0 where s, z or w has no root scale: then w and eta may have been written, and no more */
-uint8_t akm_soc_update_scaling(const double *s, size_t s_len, const double *z, size_t z_len, double *w, size_t w_len, double *lambda, size_t lambda_len, double *u, size_t u_len, double *v, size_t v_len, double *eta, double *d, uint8_t *told);
+/* truth = 1, or 0 where s, z or w has no root scale: then w and eta may have been written, and no more.
+   A mirrored point has one, a fault that is kept: s = z = (-2, 0) has truth 1 and puts a NaN into lambda.
+   akm_soc_standing tells such a point. */
+uint8_t akm_soc_update_scaling(const double *s, size_t s_len, const double *z, size_t z_len, double *w, size_t w_len, double *lambda, size_t lambda_len, double *u, size_t u_len, double *v, size_t v_len, double *eta, double *d, uint8_t *truth);
 
 /* ---- second-order: the block Hs */
 
@@ -106,7 +118,9 @@ uint8_t akm_soc_combined_ds_shift(double *shift, size_t shift_len, double *step_
 
 /* ---- second-order: steps */
 
-/* step = how far x may go along y, at most limit */
+/* step = how far x may go along y, at most limit; it lies in [0, limit]. A fault that is kept: along a y of
+   residual 0 it is the limit, lowered where the first entry would pass 0, also where that leads outside:
+   (1, 0) along (-1, 1) with limit 1 gives 1, though a half is the last point inside. */
 uint8_t akm_soc_step(const double *x, size_t x_len, const double *y, size_t y_len, double limit, double *step);
 /* step_z = z along dz, step_s = s along ds */
 uint8_t akm_soc_step_length(const double *dz, size_t dz_len, const double *ds, size_t ds_len, const double *z, size_t z_len, const double *s, size_t s_len, double limit, double *step_z, double *step_s);
@@ -122,8 +136,8 @@ uint8_t akm_nn_unit_initialization(double *z, size_t z_len, double *s, size_t s_
 uint8_t akm_nn_standing(const double *z, size_t z_len, uint8_t *standing);
 /* w = (1, 1, ..) */
 uint8_t akm_nn_set_identity_scaling(double *w, size_t w_len);
-/* lambda = sqrt(s*z), w = sqrt(s/z); told = 1 */
-uint8_t akm_nn_update_scaling(const double *s, size_t s_len, const double *z, size_t z_len, double *w, size_t w_len, double *lambda, size_t lambda_len, uint8_t *told);
+/* lambda = sqrt(s*z), w = sqrt(s/z); truth = 1 */
+uint8_t akm_nn_update_scaling(const double *s, size_t s_len, const double *z, size_t z_len, double *w, size_t w_len, double *lambda, size_t lambda_len, uint8_t *truth);
 /* hs = w*w */
 uint8_t akm_nn_get_hs(double *hs, size_t hs_len, const double *w, size_t w_len);
 /* y = w*(w*x) */
@@ -140,6 +154,8 @@ uint8_t akm_nn_circ_op(double *x, size_t x_len, const double *y, size_t y_len, c
 uint8_t akm_nn_inv_circ_op(double *x, size_t x_len, const double *y, size_t y_len, const double *z, size_t z_len);
 uint8_t akm_nn_lambda_inv_circ_op(double *x, size_t x_len, const double *z, size_t z_len, const double *lambda, size_t lambda_len);
 uint8_t akm_nn_combined_ds_shift(double *shift, size_t shift_len, double *step_z, size_t step_z_len, double *step_s, size_t step_s_len, double sigma_mu, const double *w, size_t w_len);
+/* step = the least of limit and each -x/y with y below 0. It can be negative, where an entry of x is: (-1)
+   along (-1) with limit 1 gives -1. So can a list's step, below. */
 uint8_t akm_nn_step(const double *x, size_t x_len, const double *y, size_t y_len, double limit, double *step);
 uint8_t akm_nn_step_length(const double *dz, size_t dz_len, const double *ds, size_t ds_len, const double *z, size_t z_len, const double *s, size_t s_len, double limit, double *step_z, double *step_s);
 
@@ -166,7 +182,7 @@ uint8_t akm_list_margins(const struct akm_cone *list, size_t list_len, size_t k,
 uint8_t akm_list_scaled_unit_shift(const struct akm_cone *list, size_t list_len, size_t k, double *z, size_t z_len, double alpha);
 uint8_t akm_list_unit_initialization(const struct akm_cone *list, size_t list_len, size_t k, double *z, size_t z_len, double *s, size_t s_len);
 uint8_t akm_list_set_identity_scaling(const struct akm_cone *list, size_t list_len, size_t k, double *w, size_t w_len, double *u, size_t u_len, double *v, size_t v_len, double *eta, size_t eta_len, double *d, size_t d_len);
-uint8_t akm_list_update_scaling(const struct akm_cone *list, size_t list_len, size_t k, const double *s, size_t s_len, const double *z, size_t z_len, double *w, size_t w_len, double *lambda, size_t lambda_len, double *u, size_t u_len, double *v, size_t v_len, double *eta, size_t eta_len, double *d, size_t d_len, uint8_t *told);
+uint8_t akm_list_update_scaling(const struct akm_cone *list, size_t list_len, size_t k, const double *s, size_t s_len, const double *z, size_t z_len, double *w, size_t w_len, double *lambda, size_t lambda_len, double *u, size_t u_len, double *v, size_t v_len, double *eta, size_t eta_len, double *d, size_t d_len, uint8_t *truth);
 uint8_t akm_list_get_hs(const struct akm_cone *list, size_t list_len, size_t k, double *hs, size_t hs_len, const double *w, size_t w_len, const double *eta, size_t eta_len, const double *d, size_t d_len);
 void akm_list_square_hs(struct akm_square *square, const struct akm_cone *list, size_t list_len, size_t k, const double *w, size_t w_len, const double *eta, size_t eta_len);
 uint8_t akm_list_mul_hs(const struct akm_cone *list, size_t list_len, size_t k, double *y, size_t y_len, const double *x, size_t x_len, const double *w, size_t w_len, const double *eta, size_t eta_len);

@@ -1,6 +1,6 @@
 //! One step of the kind that an interior-point solver takes, over a list of three cones: scale each cone, make
 //! the right-hand side, find how far the whole list may go, go most of the way, and say where each cone stands.
-use akmuzrel::{list, row, Kind, Refusal};
+use akmuzrel::{list, row, Kind, Refusal, State};
 
 fn main() -> Result<(), Refusal> {
     let cones = row(&[(Kind::Nonnegative, 2), (Kind::SecondOrder, 3), (Kind::SecondOrder, 5)]);
@@ -10,8 +10,7 @@ fn main() -> Result<(), Refusal> {
     let dz = vec![-0.5, 1.0, -3.0, 1.0, 2.0, -2.0, 0.0, 1.0, 1.0, 0.5];
     let ds = vec![1.0, -0.25, 1.0, 4.0, 0.0, -1.0, 1.0, 0.0, 0.5, 1.0];
 
-    let (mut w, mut lambda, mut u, mut v) = (vec![0.0; n], vec![0.0; n], vec![0.0; n], vec![0.0; n]);
-    let (mut eta, mut d) = (vec![0.0; cones.len()], vec![0.0; cones.len()]);
+    let State { mut w, mut lambda, mut u, mut v, mut eta, mut d } = State::fresh(n, cones.len());
     for k in 0..cones.len() {
         let scaled = list::update_scaling(&cones, k, &s, &z, &mut w, &mut lambda, &mut u, &mut v, &mut eta, &mut d)?;
         assert!(scaled, "cone {k} has no scaling at this point");

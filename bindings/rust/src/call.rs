@@ -43,6 +43,15 @@ macro_rules! call {
             crate::Refusal::of(unsafe { $e($($h)*) })
         }
     };
+    ([$($doc:tt)*] $n:ident $e:ident nothing [$($x:tt)*] [$($s:tt)*] [$($h:tt)*]) => {
+        $($doc)*
+        pub fn $n($($s)*) {
+            extern "C" {
+                fn $e($($x)*);
+            }
+            unsafe { $e($($h)*) }
+        }
+    };
     ([$($doc:tt)*] $n:ident $e:ident number [$($x:tt)*] [$($s:tt)*] [$($h:tt)*]) => {
         $($doc)*
         pub fn $n($($s)*) -> Result<f64, crate::Refusal> {
@@ -71,8 +80,8 @@ macro_rules! call {
             extern "C" {
                 fn $e($($x)* _: &mut u8) -> u8;
             }
-            let mut told = 0;
-            crate::Refusal::of(unsafe { $e($($h)* &mut told) }).map(|()| told == 1)
+            let mut truth = 0;
+            crate::Refusal::of(unsafe { $e($($h)* &mut truth) }).map(|()| truth == 1)
         }
     };
     ([$($doc:tt)*] $n:ident $e:ident standing [$($x:tt)*] [$($s:tt)*] [$($h:tt)*]) => {

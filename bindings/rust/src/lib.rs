@@ -111,6 +111,32 @@ pub fn block_numbers(kind: Kind, dimension: usize) -> usize {
     }
 }
 
+calls! {
+    /// w, lambda, u, v and eta all +0, d all 1, whatever their lengths: nothing is refused.
+    fresh_state: akm_fresh_state(writes w, writes lambda, writes u, writes v, writes eta, writes d) -> nothing;
+}
+
+/// What a list of cones stores from call to call: w, lambda, u and v for each entry, eta and d for each cone.
+#[derive(Clone, Debug, PartialEq)]
+pub struct State {
+    pub w: Vec<f64>,
+    pub lambda: Vec<f64>,
+    pub u: Vec<f64>,
+    pub v: Vec<f64>,
+    pub eta: Vec<f64>,
+    pub d: Vec<f64>,
+}
+
+impl State {
+    /// A fresh one, for so many entries together and so many cones.
+    pub fn fresh(entries: usize, cones: usize) -> State {
+        let [mut w, mut lambda, mut u, mut v] = [(); 4].map(|()| vec![0.0; entries]);
+        let [mut eta, mut d] = [(); 2].map(|()| vec![0.0; cones]);
+        fresh_state(&mut w, &mut lambda, &mut u, &mut v, &mut eta, &mut d);
+        State { w, lambda, u, v, eta, d }
+    }
+}
+
 /// The block of a cone of up to 4 entries as a matrix, by rows; +0 beyond the dimension.
 pub type Square = [[f64; 4]; 4];
 
@@ -161,7 +187,8 @@ pub mod soc {
         unit_initialization: akm_soc_unit_initialization(writes z, writes s) -> done;
         standing: akm_soc_standing(reads z) -> standing;
         set_identity_scaling: akm_soc_set_identity_scaling(writes w, writes u, writes v, stores eta, stores d) -> done;
-        /// False where s, z or w has no root scale: then w and eta may have been written, and no more.
+        /// False where s, z or w has no root scale: then w and eta may have been written, and no more. A fault that is kept:
+        /// a mirrored point has one, so s = z = (-2, 0) gives true, with a NaN in lambda.
         update_scaling: akm_soc_update_scaling(reads s, reads z, writes w, writes lambda, writes u, writes v, stores eta, stores d) -> truth;
         /// The block: n numbers for n above 4, else n(n+1)/2, the upper triangle by columns.
         get_hs: akm_soc_get_hs(writes hs, reads w, lent eta, lent d) -> done;
@@ -184,7 +211,8 @@ pub mod soc {
         ds_from_dz_offset: akm_soc_ds_from_dz_offset(writes out, reads ds, reads z, reads w, reads lambda, lent eta) -> done;
         /// shift = Δs ∘ Δz - sigma_mu*(1, 0, ..), with Δz = W*step_z and Δs = W⁻¹*step_s, which are left in step_z and step_s.
         combined_ds_shift: akm_soc_combined_ds_shift(writes shift, writes step_z, writes step_s, number sigma_mu, reads w, lent eta) -> done;
-        /// How far x may go along y, at most the limit.
+        /// How far x may go along y, at most the limit. A fault that is kept: along a y of residual 0 it is the limit, so (1, 0)
+        /// along (-1, 1) with limit 1 gives 1, though a half is the last point inside.
         step: akm_soc_step(reads x, reads y, number limit) -> number;
         /// z along dz, and s along ds.
         step_length: akm_soc_step_length(reads dz, reads ds, reads z, reads s, number limit) -> pair;
@@ -225,7 +253,7 @@ pub mod nn {
         lambda_inv_circ_op: akm_nn_lambda_inv_circ_op(writes x, reads z, reads lambda) -> done;
         /// As for the second-order cone, with 1 in every entry of the unit.
         combined_ds_shift: akm_nn_combined_ds_shift(writes shift, writes step_z, writes step_s, number sigma_mu, reads w) -> done;
-        /// How far x may go along y, at most the limit.
+        /// How far x may go along y, at most the limit; negative where an entry of x is below 0 and y leads further down.
         step: akm_nn_step(reads x, reads y, number limit) -> number;
         /// z along dz, and s along ds.
         step_length: akm_nn_step_length(reads dz, reads ds, reads z, reads s, number limit) -> pair;

@@ -1,5 +1,5 @@
 //! The small examples of the rules, every refusal, and a cone of a list beside the same cone by itself.
-use akmuzrel::{block_numbers, list, nn, numbers, row, soc, Cone, Kind, Refusal, Standing};
+use akmuzrel::{block_numbers, fresh_state, list, nn, numbers, row, soc, Cone, Kind, Refusal, Standing, State};
 use Kind::{Nonnegative, SecondOrder};
 
 const CONES: [(Kind, usize); 4] = [(Nonnegative, 3), (SecondOrder, 2), (SecondOrder, 5), (Nonnegative, 0)];
@@ -32,14 +32,30 @@ fn small_examples() {
 }
 
 #[test]
+fn fresh_states() {
+    let bits = |x: &[f64]| x.iter().map(|x| x.to_bits()).collect::<Vec<_>>();
+    let state = State::fresh(10, 4);
+    for zeros in [&state.w, &state.lambda, &state.u, &state.v] {
+        assert_eq!(bits(zeros), [0; 10]);
+    }
+    assert_eq!((bits(&state.eta), state.d), (vec![0; 4], vec![1.0; 4]));
+
+    // whatever they held, and of lengths that do not agree
+    let (mut w, mut lambda, mut u, mut v) = ([f64::NAN; 3], [-0.0; 2], [7.0; 1], []);
+    let (mut eta, mut d) = ([f64::INFINITY; 1], [f64::NAN; 2]);
+    fresh_state(&mut w, &mut lambda, &mut u, &mut v, &mut eta, &mut d);
+    assert_eq!((bits(&w), bits(&lambda), bits(&u), bits(&eta), d), (vec![0; 3], vec![0; 2], vec![0; 1], vec![0; 1], [1.0; 2]));
+}
+
+#[test]
 fn scaling() {
-    let (mut w, mut lambda, mut u, mut v) = ([0.0; 2], [7.0; 2], [0.0; 2], [0.0; 2]);
-    let (mut eta, mut d) = (0.0, 1.0);
-    let told = soc::update_scaling(&[5.0, 3.0], &[5.0, -3.0], &mut w, &mut lambda, &mut u, &mut v, &mut eta, &mut d);
-    assert_eq!((told, eta, w, lambda), (Ok(true), 1.0, [1.25, 0.75], [4.0, 0.0]));
-    lambda = [7.0; 2];
-    let told = soc::update_scaling(&[2.0, 0.0], &[-2.0, 0.0], &mut w, &mut lambda, &mut u, &mut v, &mut eta, &mut d);
-    assert_eq!((told, eta, w, lambda), (Ok(false), 1.0, [0.0, 0.0], [7.0, 7.0]));
+    let State { mut w, mut lambda, mut u, mut v, mut eta, mut d } = State::fresh(2, 1);
+    let (eta, d) = (&mut eta[0], &mut d[0]);
+    let told = soc::update_scaling(&[5.0, 3.0], &[5.0, -3.0], &mut w, &mut lambda, &mut u, &mut v, eta, d);
+    assert_eq!((told, *eta, &w[..], &lambda[..]), (Ok(true), 1.0, &[1.25, 0.75][..], &[4.0, 0.0][..]));
+    lambda.fill(7.0);
+    let told = soc::update_scaling(&[2.0, 0.0], &[-2.0, 0.0], &mut w, &mut lambda, &mut u, &mut v, eta, d);
+    assert_eq!((told, *eta, &w[..], &lambda[..]), (Ok(false), 1.0, &[0.0, 0.0][..], &[7.0, 7.0][..]));
 }
 
 #[test]

@@ -1,0 +1,2 @@
+-- `Unique`: two results that a contract allows are equal.
+pub mod Unique
