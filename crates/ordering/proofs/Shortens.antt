@@ -70,14 +70,6 @@ module _ (low : Bool) (a b : Float) where
       go true = refl
       go false = refl
 
-  below-nan : isNan a ≡ true → low ≡ true → UpTo low a b
-  unfolding Upto
-  below-nan u e = rw (u, e) (go (isNan b))
-    where
-      go : (p : Bool) → cond p true true ≡ true
-      go true = refl
-      go false = refl
-
 picks-least : (a b : Float) → Picks false a b (Least a b)
 unfolding Least Picked
 picks-least a b = go (isNan a) (isNan b) (lt b a) refl refl refl
