@@ -29,13 +29,14 @@ module _ (p : Place) (y : List Float) (here : Ready p) (same : length y ≡ p .e
     pub to-end : p .start + n ≤ length y
     to-end = omega arith
 
-    cut-long : length (take (p .start + n - p .start) (drop (p .start) y)) ≡ Dim (p .kind)
-    cut-long = simp (length-take, length-drop) (omega arith)
+    -- what is lent has the cone's dimension, from the cone's start on or from anywhere before it
+    cut-long : (at : ℕ) → at ≤ p .start → length (take (at + n - at) (drop at y)) ≡ Dim (p .kind)
+    cut-long at low = simp (length-take, length-drop) (omega arith)
 
     -- the range came back as `part`
     pub kept-long : (part : List Float) → length part ≡ length (take (p .start + n - p .start) (drop (p .start) y))
         → length (take (p .start) y ++ (part ++ drop (p .start + n - p .start) (drop (p .start) y))) ≡ length y
-    kept-long part e = let l = e ∙ cut-long in simp (length-append, length-take, length-drop) (omega arith)
+    kept-long part e = let l = e ∙ cut-long (p .start) (omega arith) in simp (length-append, length-take, length-drop) (omega arith)
 
 -- ---- a buffer y of a number per cone
 
@@ -48,17 +49,17 @@ module _ (p : Place) (y : List Float) (here : Ready p) (same : length y ≡ p .c
 
 -- ---- several ranges of entries, as a kernel requires them: y is the first
 
-module _ (p : Place) (n : ℕ) (here : Ready p) (long : n ≡ Dim (p .kind)) where
+module _ (p : Place) {at : ℕ} (n : ℕ) (here : Ready p) (long : n ≡ Dim (p .kind)) (low : at ≤ p .start) where
   abbrev Cut : List Float → List Float
-  Cut y = take (p .start + n - p .start) (drop (p .start) y)
+  Cut y = take (at + n - at) (drop at y)
 
   cuts-same : {m : ℕ} → m ≡ Dim (p .kind) → (ys : List (List Float)) → Fits (map (λ y. (length y, p .entries)) ys) → Same m (map (λ y. length (Cut y)) ys)
   cuts-same e [] fits = tt
-  cuts-same e (y ∷ ys) fits = (cut-long p y here (fits .0) n long ∙ sym e, cuts-same e ys (fits .1))
+  cuts-same e (y ∷ ys) fits = (cut-long p y here (fits .0) n long at low ∙ sym e, cuts-same e ys (fits .1))
 
   pub cuts-fit : (y : List Float) (ys : List (List Float)) → length y ≡ p .entries → Fits (map (λ y. (length y, p .entries)) ys) → Fit (LeastDim (p .kind)) (length (Cut y)) (map (λ y. length (Cut y)) ys)
   cuts-fit y ys same fits =
-      let e = cut-long p y here same n long in
+      let e = cut-long p y here same n long at low in
       record { enough = rw e (here .enough); most = rw e (here .most); same = cuts-same e ys fits }
 
 -- what the needs of such a call are searched with

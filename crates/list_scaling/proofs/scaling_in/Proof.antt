@@ -1,4 +1,5 @@
 -- `list_scaling::scaling_in` meets its contract. Assumes nothing.
+use native.Mathlib.Nat.{le-refl}
 use mathlib.Core.Path.{refl}
 use mathlib.Core.List.{[], _∷_}
 use borrow.Author.Needs.{needs}
@@ -20,7 +21,7 @@ scaling-in-spec =
     let a = start .args in
     let same = start .pre .same in
     let last = same .1 .1 .1 .1 .1 .1 in
-    cuts-fit (a .p) _ (start .pre .here) (dim .dim .ensures) (a .s .now) (a .z .now ∷ a .w .now ∷ a .lambda .now ∷ a .u .now ∷ a .v .now ∷ []) (last .0)
+    cuts-fit (a .p) _ (start .pre .here) (dim .dim .ensures) (le-refl _) (a .s .now) (a .z .now ∷ a .w .now ∷ a .lambda .now ∷ a .u .now ∷ a .v .now ∷ []) (last .0)
     (last .1 .0, (same .0, (same .1 .0, (same .1 .1 .0, (same .1 .1 .1 .0, tt))))))
     (λ c. search ranges) (λ c. search ranges) (λ c. search ranges) (λ c. search ranges) (λ c. search ranges) (λ c. search ranges)
     (λ c.
