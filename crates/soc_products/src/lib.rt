@@ -16,7 +16,7 @@ pub fn mul_w(y: &mut [f64], x: &[f64], alpha: f64, beta: f64, w: &[f64], eta: f6
     let c = x[0] + zeta / (1.0 + w[0]);
     let y0 = (alpha * eta) * (w[0] * x[0] + zeta) + beta * y[0];
     tails_write::set_first(y, y0);
-    tails_write::axpby_twice(y, alpha * eta * c, w, beta, alpha * eta, x);
+    tails_twice::axpby_twice(y, alpha * eta * c, w, beta, alpha * eta, x);
 }
 
 // y = alpha·W·x + beta·y
@@ -40,7 +40,7 @@ pub fn mul_winv(y: &mut [f64], x: &[f64], alpha: f64, beta: f64, w: &[f64], eta:
     let c = -x[0] + zeta / (1.0 + w[0]);
     let y0 = (alpha / eta) * (w[0] * x[0] - zeta) + beta * y[0];
     tails_write::set_first(y, y0);
-    tails_write::axpby_twice(y, alpha / eta * c, w, beta, alpha / eta, x);
+    tails_twice::axpby_twice(y, alpha / eta * c, w, beta, alpha / eta, x);
 }
 
 // y = alpha·W⁻¹·x + beta·y

@@ -1,8 +1,8 @@
--- `tails_write::axpby_twice` meets its contract. Assumes nothing.
+-- `tails_twice::axpby_twice` meets its contract. Assumes nothing.
 use borrow.Author.Needs.{needs}
 use Rattle.tails.proofs.Laws.{part-tail, tail-back}
-use Rattle.tails_write.proofs.axpby_twice.Statement.{statement}
-use Rattle.tails_write.proofs.axpby_twice.Tie as tie
+use Rattle.tails_twice.proofs.axpby_twice.Statement.{statement}
+use Rattle.tails_twice.proofs.axpby_twice.Tie as tie
 
 pub axpby-twice-spec : {M : Type 1} → statement M
 axpby-twice-spec =

@@ -1,8 +1,8 @@
--- `tails_write::twice` meets its contract. Assumes nothing.
+-- `tails_twice::twice` meets its contract. Assumes nothing.
 use Rattle.vecmath.proofs.Loops.{Filled, loops, length, _-_, nan, _⊕_, _⊗_, 𝟏, _!_}
-use Rattle.tails_write.proofs.Laws.{axpby-axpby}
-use Rattle.tails_write.proofs.twice.Statement.{statement}
-use Rattle.tails_write.proofs.twice.Tie as tie
+use Rattle.tails_twice.proofs.Laws.{axpby-axpby}
+use Rattle.tails_twice.proofs.twice.Statement.{statement}
+use Rattle.tails_twice.proofs.twice.Tie as tie
 
 pub twice-spec : {M : Type 1} → statement M
 twice-spec =
