@@ -13,7 +13,7 @@ ghost use Rattle.nn_products.specs.Products.{NnMulW, NnMulWinv};
 ghost use Rattle.nn_jordan.specs.Jordan.{NnAffineDs, NnCircOp};
 ghost use Rattle.nn_inverse.specs.Inverse.{NnInvCircOp, NnLambdaInvCircOp};
 ghost use Rattle.nn_step.specs.Step.{NnStep, NnStepLength};
-ghost use Rattle.symmetric_common.specs.Combined.{NnCombinedDsShift};
+ghost use Rattle.nn_combined.specs.Combined.{NnCombinedDsShift};
 ghost use Rattle.standing.specs.Standing.{NnStands};
 ghost use Rattle.codes.specs.Code.{real, whole, export, Values, Exported};
 
@@ -163,7 +163,7 @@ pub extern "C" fn akm_nn_combined_ds_shift(
     ensures { λ r. ⌜ export r [] (now (shift .exit) ⨾ now («step_z» .exit) ⨾ now («step_s» .exit) ⨾ tt)
         ≡ Exported Values [] (NnCombinedDsShift (now (shift .entry)) (now («step_z» .entry)) (now («step_s» .entry)) «sigma_mu» (now (w .entry))) ⌝ }
 {
-    codes::answer(symmetric_common::nn_combined_ds_shift(shift, step_z, step_s, sigma_mu, w))
+    codes::answer(nn_combined::nn_combined_ds_shift(shift, step_z, step_s, sigma_mu, w))
 }
 
 #[no_mangle]

@@ -16,7 +16,7 @@ ghost use Rattle.soc_offset.specs.Offset.{SocDsFromDzOffset};
 ghost use Rattle.soc_jordan.specs.Jordan.{SocCircOp, SocAffineDs};
 ghost use Rattle.soc_inverse.specs.Inverse.{SocInvCircOp, SocLambdaInvCircOp};
 ghost use Rattle.soc_step.specs.Step.{SocStep, SocStepLength};
-ghost use Rattle.symmetric_common.specs.Combined.{SocCombinedDsShift};
+ghost use Rattle.soc_combined.specs.Combined.{SocCombinedDsShift};
 ghost use Rattle.standing.specs.Standing.{SocStands};
 ghost use Rattle.codes.specs.Code.{real, whole, export, Values, Exported};
 
@@ -239,7 +239,7 @@ pub extern "C" fn akm_soc_combined_ds_shift(
     ensures { λ r. ⌜ export r [] (now (shift .exit) ⨾ now («step_z» .exit) ⨾ now («step_s» .exit) ⨾ tt)
         ≡ Exported Values [] (SocCombinedDsShift (now (shift .entry)) (now («step_z» .entry)) (now («step_s» .entry)) «sigma_mu» (now (w .entry)) (now (eta .entry))) ⌝ }
 {
-    codes::answer(symmetric_common::soc_combined_ds_shift(shift, step_z, step_s, sigma_mu, w, eta))
+    codes::answer(soc_combined::soc_combined_ds_shift(shift, step_z, step_s, sigma_mu, w, eta))
 }
 
 #[no_mangle]

@@ -3,7 +3,8 @@
 use mathlib.Core.List.{List, [], _∷_}
 use lib.Ieee.{Float}
 use Rattle.answers.specs.Outcome.{Contents}
-use Rattle.symmetric_common.specs.Combined.{CombinedShift, NonnegCombinedShift}
+use Rattle.soc_combined.specs.Combined.{CombinedShift}
+use Rattle.nn_combined.specs.Combined.{NonnegCombinedShift}
 use Rattle.conelist.specs.declared.Kind.{Kind}
 use Rattle.conelist.specs.declared.Kind.the-variants.{Nonnegative, SecondOrder}
 use Rattle.conecalls.specs.Deed.{real, per-entry, per-cone, Deed, Plain, Writes}

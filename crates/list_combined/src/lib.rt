@@ -28,14 +28,8 @@ fn kind_combined(
         ≡ KindCombined kind (now («step_z» .entry)) (now («step_s» .entry)) «sigma_mu» (now (w .entry)) eta ⌝ }
 {
     match kind {
-        Kind::Nonnegative(n) => symmetric_common::nonnegative_shift(
-            shift,
-            step_z,
-            step_s,
-            sigma_mu,
-            w,
-        ),
-        Kind::SecondOrder(n) => symmetric_common::second_order_shift(
+        Kind::Nonnegative(n) => nn_combined::combined_ds_shift(shift, step_z, step_s, sigma_mu, w),
+        Kind::SecondOrder(n) => soc_combined::combined_ds_shift(
             shift,
             step_z,
             step_s,

@@ -24,7 +24,8 @@ use Rattle.nn_mul_hs.proofs.Laws as times
 use Rattle.nn_offset.proofs.Laws as moved
 use Rattle.nn_jordan.proofs.Laws as jordan
 use Rattle.nn_inverse.proofs.Laws as inverse
-use Rattle.symmetric_common.proofs.Laws.{lengths-combined, lengths-nonneg-combined}
+use Rattle.soc_combined.proofs.Laws.{lengths-combined}
+use Rattle.nn_combined.proofs.Laws as shifted
 use Rattle.conelist.specs.declared.Kind.{Kind}
 use Rattle.conelist.specs.declared.Kind.the-variants.{Nonnegative, SecondOrder}
 use Rattle.conelist.specs.Layout.{Dim, LeastDim, BlockDim}
@@ -84,7 +85,7 @@ affine-ds (SecondOrder n) lambda h of-lambda = length-circ lambda lambda (some h
 pub combined : (kind : Kind) (step_z step_s : List Float) (σμ : Float) (w : List Float) (η : Float) → LeastDim kind ≤ Dim kind → length step_z ≡ Dim kind → length step_s ≡ Dim kind
     → Long (Dim kind) 3 0 (KindCombined kind step_z step_s σμ w η)
 unfolding KindCombined
-combined (Nonnegative n) step_z step_s σμ w η h of-z of-s = lengths-nonneg-combined step_z step_s σμ w of-z of-s
+combined (Nonnegative n) step_z step_s σμ w η h of-z of-s = shifted.lengths-combined step_z step_s σμ w of-z of-s
 combined (SecondOrder n) step_z step_s σμ w η h of-z of-s = lengths-combined step_z step_s σμ w η (some h) of-z of-s
 
 pub offset : (kind : Kind) (ds z w lambda : List Float) (η : Float) → LeastDim kind ≤ Dim kind → length ds ≡ Dim kind → length z ≡ Dim kind → length (KindOffset kind ds z w lambda η) ≡ Dim kind

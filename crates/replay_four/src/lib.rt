@@ -52,7 +52,7 @@ fn call(h: Head, p: Place, x0: &mut [f64], x1: &mut [f64], x2: &mut [f64], x3: &
         0x105 => return second_order_block(x0, x1, x2, x3),
         0x107 | 0x10c | 0x10d => return second_order(h, x0, x1, x2, x3),
         0x204 => case_answers::scaling(nn_scaling::nn_update_scaling(x0, x1, x2, x3)),
-        0x209 => case_answers::answer(symmetric_common::nn_combined_ds_shift(x0, x1, x2, h.a, x3)),
+        0x209 => case_answers::answer(nn_combined::nn_combined_ds_shift(x0, x1, x2, h.a, x3)),
         0x305 | 0x307 | 0x30c | 0x30d => of_list(h, p, x0, x1, x2, x3),
         _ => steps(h, p, x0, x1, x2, x3),
     }

@@ -25,7 +25,7 @@ fn combined(
     if eta.len() != 1 {
         return 10;
     }
-    case_answers::answer(symmetric_common::soc_combined_ds_shift(
+    case_answers::answer(soc_combined::soc_combined_ds_shift(
         shift,
         step_z,
         step_s,

@@ -11,6 +11,6 @@ unfolding KindCombined
 kind-combined-spec =
     tie.close (tie.spec
     (λ c. search needs) (λ c κs. search needs) (λ c. search needs) (λ c κs. omega (arith, two-least)) (λ c. search needs) (λ c. search needs) (λ c. search needs)
-    (λ c. rw (c .before .before .before .before .before .before .before .before .before .before .before .kind .given .1) (c .before .before .before .before .before .before .nonnegative-shift .ensures))
+    (λ c. rw (c .before .before .before .before .before .before .before .before .before .before .before .kind .given .1) (c .before .before .before .before .before .before .combined-ds-shift .ensures))
     (λ c. search needs) (λ c. search needs) (λ c. search needs)
-    (λ c. rw (c .before .before .before .before .before .before .before .before .before .before .before .kind2 .given .1) (c .before .before .before .before .before .before .second-order-shift .ensures)))
+    (λ c. rw (c .before .before .before .before .before .before .before .before .before .before .before .kind2 .given .1) (c .before .before .before .before .before .before .combined-ds-shift2 .ensures)))

@@ -1,9 +1,9 @@
--- `symmetric_common::soc_combined_ds_shift` meets its contract. Assumes nothing.
+-- `soc_combined::soc_combined_ds_shift` meets its contract. Assumes nothing.
 use mathlib.Core.List.{[], _∷_}
 use borrow.Author.Needs.{needs}
 use Rattle.answers.proofs.Laws.{fit, outcomes}
-use Rattle.symmetric_common.proofs.soc_combined_ds_shift.Statement.{statement}
-use Rattle.symmetric_common.proofs.soc_combined_ds_shift.Tie as tie
+use Rattle.soc_combined.proofs.soc_combined_ds_shift.Statement.{statement}
+use Rattle.soc_combined.proofs.soc_combined_ds_shift.Tie as tie
 
 pub soc-combined-ds-shift-spec : {M : Type 1} → statement M
 soc-combined-ds-shift-spec =

@@ -1,12 +1,12 @@
--- `symmetric_common::second_order_shift` meets its contract: what each call left, put in for what it was. Assumes nothing.
+-- `soc_combined::combined_ds_shift` meets its contract: what each call left, put in for what it was. Assumes nothing.
 use borrow.Author.Needs.{needs}
-use Rattle.symmetric_common.specs.Combined.{CombinedShift}
-use Rattle.symmetric_common.proofs.second_order_shift.Statement.{statement}
-use Rattle.symmetric_common.proofs.second_order_shift.Tie as tie
+use Rattle.soc_combined.specs.Combined.{CombinedShift}
+use Rattle.soc_combined.proofs.combined_ds_shift.Statement.{statement}
+use Rattle.soc_combined.proofs.combined_ds_shift.Tie as tie
 
-pub second-order-shift-spec : {M : Type 1} → statement M
+pub combined-ds-shift-spec : {M : Type 1} → statement M
 unfolding CombinedShift
-second-order-shift-spec =
+combined-ds-shift-spec =
     tie.close (tie.spec
     (λ c κs. search needs) (λ c κs. search needs) (λ c κs. search needs) (λ c κs. search needs)
     (λ c κs. search needs) (λ c κs. search needs) (λ c. search needs) (λ c. search needs) (λ c. search needs)

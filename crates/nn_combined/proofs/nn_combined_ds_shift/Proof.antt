@@ -1,9 +1,9 @@
--- `symmetric_common::nn_combined_ds_shift` meets its contract. Assumes nothing.
+-- `nn_combined::nn_combined_ds_shift` meets its contract. Assumes nothing.
 use mathlib.Core.List.{[], _∷_}
 use borrow.Author.Needs.{needs}
 use Rattle.answers.proofs.Laws.{fit, outcomes}
-use Rattle.symmetric_common.proofs.nn_combined_ds_shift.Statement.{statement}
-use Rattle.symmetric_common.proofs.nn_combined_ds_shift.Tie as tie
+use Rattle.nn_combined.proofs.nn_combined_ds_shift.Statement.{statement}
+use Rattle.nn_combined.proofs.nn_combined_ds_shift.Tie as tie
 
 pub nn-combined-ds-shift-spec : {M : Type 1} → statement M
 nn-combined-ds-shift-spec =

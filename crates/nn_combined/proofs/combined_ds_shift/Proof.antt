@@ -1,12 +1,12 @@
--- `symmetric_common::nonnegative_shift` meets its contract: what each call left, put in for what it was. Assumes nothing.
+-- `nn_combined::combined_ds_shift` meets its contract: what each call left, put in for what it was. Assumes nothing.
 use borrow.Author.Needs.{needs}
-use Rattle.symmetric_common.specs.Combined.{NonnegCombinedShift}
-use Rattle.symmetric_common.proofs.nonnegative_shift.Statement.{statement}
-use Rattle.symmetric_common.proofs.nonnegative_shift.Tie as tie
+use Rattle.nn_combined.specs.Combined.{NonnegCombinedShift}
+use Rattle.nn_combined.proofs.combined_ds_shift.Statement.{statement}
+use Rattle.nn_combined.proofs.combined_ds_shift.Tie as tie
 
-pub nonnegative-shift-spec : {M : Type 1} → statement M
+pub combined-ds-shift-spec : {M : Type 1} → statement M
 unfolding NonnegCombinedShift
-nonnegative-shift-spec =
+combined-ds-shift-spec =
     tie.close (tie.spec
     (λ c κs. search needs) (λ c κs. search needs) (λ c κs. search needs) (λ c κs. search needs)
     (λ c κs. search needs) (λ c κs. search needs) (λ c. search needs) (λ c. search needs) (λ c. search needs)

@@ -1,4 +1,0 @@
--- `Laws`: lengths over n. `Unique`: each public call leaves one result. `Worked`: examples, computed.
-pub mod Laws
-pub mod Unique
-pub mod Worked
