@@ -7,13 +7,15 @@ ghost use Rattle.answers.specs.Outcome.{ofSquare, AsSquared, _⨾_};
 ghost use Rattle.conelist.specs.Layout.{PlaceOf};
 ghost use Rattle.conecalls.specs.Deed.{At};
 ghost use Rattle.list_margins.specs.Margins.{MarginsDeed};
-ghost use Rattle.list_units.specs.Units.{ScaledUnitShiftDeed, UnitInitializationDeed};
+ghost use Rattle.list_unit_shift.specs.Shift.{ScaledUnitShiftDeed};
+ghost use Rattle.list_units.specs.Units.{UnitInitializationDeed};
 ghost use Rattle.list_identity.specs.Identity.{SetIdentityScalingDeed};
 ghost use Rattle.list_scaling.specs.Scaling.{UpdateScalingDeed};
 ghost use Rattle.list_blocks.specs.Block.{GetHsDeed};
 ghost use Rattle.list_square.specs.Square.{SquareHsDeed};
 ghost use Rattle.list_mul_hs.specs.Block.{MulHsDeed};
-ghost use Rattle.list_jordan.specs.Jordan.{AffineDsDeed, CircOpDeed};
+ghost use Rattle.list_jordan.specs.Jordan.{CircOpDeed};
+ghost use Rattle.list_affine_ds.specs.Affine.{AffineDsDeed};
 ghost use Rattle.list_combined.specs.Combined.{CombinedDsShiftDeed};
 ghost use Rattle.list_offset.specs.Offset.{DsFromDzOffsetDeed};
 ghost use Rattle.list_step.specs.Step.{StepLengthDeed};
@@ -51,7 +53,7 @@ pub extern "C" fn akm_list_scaled_unit_shift(
         ≡ Exported Values [] (At (PlaceOf (Cones (now (list .entry))) k) (ScaledUnitShiftDeed alpha) (now (z .entry))) ⌝ }
 {
     let p = records::place_of(list, k);
-    codes::answer(list_units::scaled_unit_shift_at(p, z, alpha))
+    codes::answer(list_unit_shift::scaled_unit_shift_at(p, z, alpha))
 }
 
 #[no_mangle]
@@ -165,7 +167,7 @@ pub extern "C" fn akm_list_affine_ds(
         ≡ Exported Values [] (At (PlaceOf (Cones (now (list .entry))) k) AffineDsDeed (now (ds .entry)) (now (lambda .entry))) ⌝ }
 {
     let p = records::place_of(list, k);
-    codes::answer(list_jordan::affine_ds_at(p, ds, lambda))
+    codes::answer(list_affine_ds::affine_ds_at(p, ds, lambda))
 }
 
 #[no_mangle]

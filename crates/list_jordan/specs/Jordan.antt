@@ -1,9 +1,9 @@
--- The Jordan product and affine_ds of one cone of a list: what the cone's kind asks on its own ranges (document 01, "Second-order rules" and "Nonnegative rules"), and
+-- The Jordan product of one cone of a list: what the cone's kind asks on its own ranges (document 01, "Second-order rules" and "Nonnegative rules"), and
 -- the call's deed. Assumes nothing.
 use mathlib.Core.List.{List, [], _∷_}
 use lib.Ieee.{Float}
 use Rattle.soc_jordan.specs.Jordan.{Circ}
-use Rattle.nn_jordan.specs.Jordan.{NonnegAffineDs, NonnegCirc}
+use Rattle.nn_jordan.specs.Jordan.{NonnegCirc}
 use Rattle.conelist.specs.declared.Kind.{Kind}
 use Rattle.conelist.specs.declared.Kind.the-variants.{Nonnegative, SecondOrder}
 use Rattle.answers.specs.Outcome.{_⨾_}
@@ -13,14 +13,6 @@ unfoldable pub KindCirc : Kind → (y z : List Float) → List Float
 KindCirc (Nonnegative n) y z = NonnegCirc y z
 KindCirc (SecondOrder n) y z = Circ y z
 
-unfoldable pub KindAffineDs : Kind → (lambda : List Float) → List Float
-KindAffineDs (Nonnegative n) lambda = NonnegAffineDs lambda
-KindAffineDs (SecondOrder n) lambda = Circ lambda lambda
-
 -- x; y, z
 abbrev pub CircOpDeed : Deed
 CircOpDeed = Plain (per-entry real ∷ []) (per-entry real ∷ per-entry real ∷ []) (λ kind x y z. Writes (KindCirc kind y z ⨾ tt))
-
--- ds; lambda
-abbrev pub AffineDsDeed : Deed
-AffineDsDeed = Plain (per-entry real ∷ []) (per-entry real ∷ []) (λ kind ds lambda. Writes (KindAffineDs kind lambda ⨾ tt))

@@ -1,6 +1,5 @@
-// The Jordan product and affine_ds of one cone of a list (document 01, "Second-order rules" and "Nonnegative rules"; source documents 000,
-// lines 258 to 260, 347 to 349 and 360 to 367, and 001, lines 110 to 115, 206 to 208 and 218 to 225), over the cone's place. For each: by the cone's kind, on the
-// cone's own ranges, and the call.
+// The Jordan product of one cone of a list (document 01, "Second-order rules" and "Nonnegative rules"; source documents 000, lines 347 to 349 and
+// 360 to 367, and 001, lines 206 to 208 and 218 to 225), over the cone's place: by the cone's kind, on the cone's own ranges, and the call.
 use answers::Answer;
 use conelist::Kind;
 use conelist::Place;
@@ -11,9 +10,7 @@ ghost use Rattle.answers.specs.Refusal.{Fit};
 ghost use Rattle.answers.specs.Outcome.{tells, ofAnswer, _⨾_};
 ghost use Rattle.conelist.specs.Layout.{LeastDim, Open, Of, With};
 ghost use Rattle.conecalls.specs.Deed.{At};
-ghost use Rattle.list_jordan.specs.Jordan.{KindCirc, KindAffineDs, CircOpDeed, AffineDsDeed};
-
-// ---- the product
+ghost use Rattle.list_jordan.specs.Jordan.{KindCirc, CircOpDeed};
 
 fn kind_circ(kind: Kind, x: &mut [f64], y: &[f64], z: &[f64])
     requires { ⌜ Fit (LeastDim kind) (length (now x)) (length (now y) ∷ length (now z) ∷ []) ⌝ }
@@ -46,40 +43,5 @@ pub fn circ_op_at(p: Place, x: &mut [f64], y: &[f64], z: &[f64]) -> Answer
         return Answer::Refused(no);
     }
     circ_op_in(p, x, y, z);
-    Answer::Done
-}
-
-// ---- affine_ds
-
-fn kind_affine_ds(kind: Kind, ds: &mut [f64], lambda: &[f64])
-    requires { ⌜ Fit (LeastDim kind) (length (now ds)) (length (now lambda) ∷ []) ⌝ }
-    ensures { λ _. ⌜ now (ds .exit) ≡ KindAffineDs kind (now (lambda .entry)) ⌝ }
-{
-    match kind {
-        Kind::Nonnegative(n) => nn_jordan::affine_ds(ds, lambda),
-        Kind::SecondOrder(n) => soc_jordan::circ_op(ds, lambda, lambda),
-    }
-}
-
-fn affine_ds_in(p: Place, ds: &mut [f64], lambda: &[f64])
-    requires { ⌜ Open p ((length (now ds), p .entries) ∷ (length (now lambda), p .entries) ∷ []) ⌝ }
-    ensures { λ _. ⌜ now (ds .exit) ≡ With p (now (ds .entry)) (KindAffineDs (p .kind) (Of p (now (lambda .entry)))) ⌝ }
-{
-    let at = p.start;
-    let kind = p.kind;
-    let end = at + conelist::dim(kind);
-    kind_affine_ds(kind, &mut ds[at..end], &lambda[at..end]);
-}
-
-// ds = lambda ∘ lambda
-pub fn affine_ds_at(p: Place, ds: &mut [f64], lambda: &[f64]) -> Answer
-    ensures { λ r. ⌜ tells (ofAnswer r) (now (ds .exit) ⨾ tt) ≡ At p AffineDsDeed (now (ds .entry)) (now (lambda .entry)) ⌝ }
-{
-    let entries = p.entries;
-    let no = conelist::refusal(p, (ds.len() == entries) & (lambda.len() == entries));
-    if no != 0 {
-        return Answer::Refused(no);
-    }
-    affine_ds_in(p, ds, lambda);
     Answer::Done
 }

@@ -1,4 +1,4 @@
--- Each public call's contract leaves one answer and one final contents of what it was lent. Assumes nothing.
+-- The public call's contract leaves one answer and one final contents of what it was lent. Assumes nothing.
 use mathlib.Core.Path.{_≡_}
 use mathlib.Core.List.{List}
 use lib.Ieee.{Float}
@@ -7,12 +7,8 @@ use Rattle.answers.specs.Outcome.{tells, ofAnswer}
 use Rattle.answers.proofs.Unique.{one-answer}
 use Rattle.conelist.specs.declared.Place.{Place}
 use Rattle.conecalls.specs.Deed.{Whole, Tuple, At}
-use Rattle.list_units.specs.Units.{ScaledUnitShiftDeed, UnitInitializationDeed}
+use Rattle.list_units.specs.Units.{UnitInitializationDeed}
 
-module _ (p : Place) where
-  module _ {r r′ : Answer} where
-    pub scaled-unit-shift-at : (z : List Float) (α : Float) {e e′ : Tuple Whole (ScaledUnitShiftDeed α .writes)} → tells (ofAnswer r) e ≡ At p (ScaledUnitShiftDeed α) z → tells (ofAnswer r′) e′ ≡ At p (ScaledUnitShiftDeed α) z → (r ≡ r′) × (e ≡ e′)
-    scaled-unit-shift-at z α = one-answer
-
-    pub unit-initialization-at : (z s : List Float) {e e′ : Tuple Whole (UnitInitializationDeed .writes)} → tells (ofAnswer r) e ≡ At p UnitInitializationDeed z s → tells (ofAnswer r′) e′ ≡ At p UnitInitializationDeed z s → (r ≡ r′) × (e ≡ e′)
-    unit-initialization-at z s = one-answer
+module _ (p : Place) {r r′ : Answer} where
+  pub unit-initialization-at : (z s : List Float) {e e′ : Tuple Whole (UnitInitializationDeed .writes)} → tells (ofAnswer r) e ≡ At p UnitInitializationDeed z s → tells (ofAnswer r′) e′ ≡ At p UnitInitializationDeed z s → (r ≡ r′) × (e ≡ e′)
+  unit-initialization-at z s = one-answer

@@ -1,27 +1,20 @@
--- Unit shift and unit initialisation of one cone of a list: what the cone's kind asks on its own ranges (document 01, "Second-order rules" and "Nonnegative rules"), and
+-- Unit initialisation of one cone of a list: what the cone's kind asks on its own ranges (document 01, "Second-order rules" and "Nonnegative rules"), and
 -- the call's deed. Assumes nothing.
 use Prim.Native.Nat.{ℕ}
 use mathlib.Core.List.{List, [], _∷_}
 use lib.ListN.{length}
 use lib.Ieee.{Float}
-use Rattle.soc_units.specs.Units.{UnitShift, UnitVector}
-use Rattle.nn_units.specs.Units.{NonnegShift, NonnegUnit}
+use Rattle.soc_units.specs.Units.{UnitVector}
+use Rattle.nn_units.specs.Units.{NonnegUnit}
 use Rattle.conelist.specs.declared.Kind.{Kind}
 use Rattle.conelist.specs.declared.Kind.the-variants.{Nonnegative, SecondOrder}
 use Rattle.answers.specs.Outcome.{_⨾_}
 use Rattle.conecalls.specs.Deed.{real, per-entry, Deed, Plain, Writes}
 
-unfoldable pub KindUnitShift : Kind → List Float → Float → List Float
-KindUnitShift (Nonnegative n) z α = NonnegShift α z
-KindUnitShift (SecondOrder n) z α = UnitShift z α
-
--- unit initialisation, of one of the two vectors, which has m entries
+-- of one of the two vectors, which has m entries
 unfoldable pub KindUnit : Kind → (m : ℕ) → List Float
 KindUnit (Nonnegative n) m = NonnegUnit m
 KindUnit (SecondOrder n) m = UnitVector m
-
-abbrev pub ScaledUnitShiftDeed : (α : Float) → Deed
-ScaledUnitShiftDeed α = Plain (per-entry real ∷ []) [] (λ kind z. Writes (KindUnitShift kind z α ⨾ tt))
 
 -- z, s
 abbrev pub UnitInitializationDeed : Deed

@@ -29,12 +29,14 @@ use Rattle.nn_combined.proofs.Laws as shifted
 use Rattle.conelist.specs.declared.Kind.{Kind}
 use Rattle.conelist.specs.declared.Kind.the-variants.{Nonnegative, SecondOrder}
 use Rattle.conelist.specs.Layout.{Dim, LeastDim, BlockDim}
-use Rattle.list_units.specs.Units.{KindUnitShift, KindUnit}
+use Rattle.list_unit_shift.specs.Shift.{KindUnitShift}
+use Rattle.list_units.specs.Units.{KindUnit}
 use Rattle.list_identity.specs.Identity.{KindIdentity}
 use Rattle.list_scaling.specs.Scaling.{KindScaling}
 use Rattle.list_blocks.specs.Block.{KindHs}
 use Rattle.list_mul_hs.specs.Block.{KindMulHs}
-use Rattle.list_jordan.specs.Jordan.{KindAffineDs, KindCirc}
+use Rattle.list_jordan.specs.Jordan.{KindCirc}
+use Rattle.list_affine_ds.specs.Affine.{KindAffineDs}
 use Rattle.list_combined.specs.Combined.{KindCombined}
 use Rattle.list_offset.specs.Offset.{KindOffset}
 use Rattle.list_products.specs.Product.{KindMulW}

@@ -8,13 +8,15 @@ use Rattle.conelist.specs.declared.Cone.{Cone}
 use Rattle.conelist.specs.Layout.{PlaceOf}
 use Rattle.conecalls.specs.Deed.{Whole, Tuple, Numbers, Deed}
 use Rattle.list_margins.specs.Margins.{MarginsDeed}
-use Rattle.list_units.specs.Units.{ScaledUnitShiftDeed, UnitInitializationDeed}
+use Rattle.list_unit_shift.specs.Shift.{ScaledUnitShiftDeed}
+use Rattle.list_units.specs.Units.{UnitInitializationDeed}
 use Rattle.list_identity.specs.Identity.{SetIdentityScalingDeed}
 use Rattle.list_scaling.specs.Scaling.{UpdateScalingDeed}
 use Rattle.list_blocks.specs.Block.{GetHsDeed}
 use Rattle.list_square.specs.Square.{SquareHsDeed}
 use Rattle.list_mul_hs.specs.Block.{MulHsDeed}
-use Rattle.list_jordan.specs.Jordan.{AffineDsDeed, CircOpDeed}
+use Rattle.list_jordan.specs.Jordan.{CircOpDeed}
+use Rattle.list_affine_ds.specs.Affine.{AffineDsDeed}
 use Rattle.list_combined.specs.Combined.{CombinedDsShiftDeed}
 use Rattle.list_offset.specs.Offset.{DsFromDzOffsetDeed}
 use Rattle.list_step.specs.Step.{StepLengthDeed}

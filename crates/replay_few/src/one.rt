@@ -23,7 +23,7 @@ fn writes(h: Head, p: Place, z: &mut [f64]) {
         0x101 => case_answers::answer(soc_units::soc_scaled_unit_shift(z, h.a)),
         0x201 => case_answers::answer(nn_units::nn_scaled_unit_shift(z, h.a)),
         0x203 => case_answers::answer(nn_identity::nn_set_identity_scaling(z)),
-        _ => case_answers::answer(list_units::scaled_unit_shift_at(p, z, h.a)),
+        _ => case_answers::answer(list_unit_shift::scaled_unit_shift_at(p, z, h.a)),
     }
 }
 

@@ -19,7 +19,7 @@ fn writes(h: Head, p: Place, x: &mut [f64], y: &[f64]) {
         0x108 => case_answers::answer(soc_jordan::soc_affine_ds(x, y)),
         0x205 => case_answers::answer(nn_blocks::nn_get_hs(x, y)),
         0x208 => case_answers::answer(nn_jordan::nn_affine_ds(x, y)),
-        _ => case_answers::answer(list_jordan::affine_ds_at(p, x, y)),
+        _ => case_answers::answer(list_affine_ds::affine_ds_at(p, x, y)),
     }
 }
 

@@ -1,8 +1,8 @@
--- `list_units_row::scaled_unit_shift` meets its contract: a forwarder to `list_units::scaled_unit_shift_at`. Assumes nothing.
+-- `list_units_row::scaled_unit_shift` meets its contract: a forwarder to `list_unit_shift::scaled_unit_shift_at`. Assumes nothing.
 use Rattle.conewalk.proofs.Forward.{refl, [], _∷_, PlaceOf, placeVal, knowns, forwards}
-use Rattle.list_units.proofs.scaled_unit_shift_at as core
-use Rattle.list_units.proofs.scaled_unit_shift_at.Symbol as core-def
-use Rattle.list_units.proofs.scaled_unit_shift_at.Met as core-thm
+use Rattle.list_unit_shift.proofs.scaled_unit_shift_at as core
+use Rattle.list_unit_shift.proofs.scaled_unit_shift_at.Symbol as core-def
+use Rattle.list_unit_shift.proofs.scaled_unit_shift_at.Met as core-thm
 use Rattle.list_units_row.proofs.scaled_unit_shift as f
 use Rattle.list_units_row.proofs.scaled_unit_shift.Key as key
 use Rattle.list_units_row.proofs.scaled_unit_shift.Statement as stated
@@ -11,7 +11,7 @@ use Rattle.list_units_row.proofs.scaled_unit_shift.Code as code
 pub scaled-unit-shift-spec : {M : Type 1} → stated.statement M
 unfolding code.routine
 scaled-unit-shift-spec 𝓤 H 𝓜 𝓖 𝓡 =
-    forwards 𝓤 H 𝓜 𝓖 𝓡 f.ended (f.clauses 𝓤 H) core.ended (core.clauses 𝓤 H) code.env key.name code.function (code.unfolded 𝓤 H 𝓜 𝓡) code.calls-conewalk·place-of core-def.name core-def.routine code.calls-list-units·scaled-unit-shift-at (core-thm.met 𝓤 H 𝓜 𝓖 𝓡)
+    forwards 𝓤 H 𝓜 𝓖 𝓡 f.ended (f.clauses 𝓤 H) core.ended (core.clauses 𝓤 H) code.env key.name code.function (code.unfolded 𝓤 H 𝓜 𝓡) code.calls-conewalk·place-of core-def.name core-def.routine code.calls-list-unit-shift·scaled-unit-shift-at (core-thm.met 𝓤 H 𝓜 𝓖 𝓡)
     (λ W κs. (search knowns, (search knowns, (search knowns, (search knowns, tt))))) (λ κs a t. t) (λ W κs. search knowns)
     (λ κs qs b a g.
     let p = PlaceOf (a .0 .now) (a .1 .0) in

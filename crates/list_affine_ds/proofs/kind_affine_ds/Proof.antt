@@ -1,10 +1,10 @@
--- `list_jordan::kind_affine_ds` meets its contract. Assumes nothing.
+-- `list_affine_ds::kind_affine_ds` meets its contract. Assumes nothing.
 use native.Mathlib.Omega.{arith}
 use borrow.Author.Needs.{needs}
 use Rattle.conelist.proofs.Placed.{two-least}
-use Rattle.list_jordan.specs.Jordan.{KindAffineDs}
-use Rattle.list_jordan.proofs.kind_affine_ds.Statement.{statement}
-use Rattle.list_jordan.proofs.kind_affine_ds.Tie as tie
+use Rattle.list_affine_ds.specs.Affine.{KindAffineDs}
+use Rattle.list_affine_ds.proofs.kind_affine_ds.Statement.{statement}
+use Rattle.list_affine_ds.proofs.kind_affine_ds.Tie as tie
 
 pub kind-affine-ds-spec : {M : Type 1} → statement M
 unfolding KindAffineDs

@@ -1,10 +1,10 @@
--- `list_units::kind_unit_shift` meets its contract. Assumes nothing.
+-- `list_unit_shift::kind_unit_shift` meets its contract. Assumes nothing.
 use native.Mathlib.Omega.{arith}
 use borrow.Author.Needs.{needs}
 use Rattle.conelist.proofs.Placed.{two-least}
-use Rattle.list_units.specs.Units.{KindUnitShift}
-use Rattle.list_units.proofs.kind_unit_shift.Statement.{statement}
-use Rattle.list_units.proofs.kind_unit_shift.Tie as tie
+use Rattle.list_unit_shift.specs.Shift.{KindUnitShift}
+use Rattle.list_unit_shift.proofs.kind_unit_shift.Statement.{statement}
+use Rattle.list_unit_shift.proofs.kind_unit_shift.Tie as tie
 
 pub kind-unit-shift-spec : {M : Type 1} → statement M
 unfolding KindUnitShift

@@ -1,8 +1,8 @@
--- `list_units::unit_shift_in` meets its contract. Assumes nothing.
+-- `list_unit_shift::unit_shift_in` meets its contract. Assumes nothing.
 use borrow.Author.Needs.{needs}
 use Rattle.conelist.proofs.Placed.{lent, back}
-use Rattle.list_units.proofs.unit_shift_in.Statement.{statement}
-use Rattle.list_units.proofs.unit_shift_in.Tie as tie
+use Rattle.list_unit_shift.proofs.unit_shift_in.Statement.{statement}
+use Rattle.list_unit_shift.proofs.unit_shift_in.Tie as tie
 
 pub unit-shift-in-spec : {M : Type 1} → statement M
 unit-shift-in-spec =

@@ -1,8 +1,8 @@
--- `list_jordan::affine_ds_in` meets its contract. Assumes nothing.
+-- `list_affine_ds::affine_ds_in` meets its contract. Assumes nothing.
 use borrow.Author.Needs.{needs}
 use Rattle.conelist.proofs.Placed.{lent, back}
-use Rattle.list_jordan.proofs.affine_ds_in.Statement.{statement}
-use Rattle.list_jordan.proofs.affine_ds_in.Tie as tie
+use Rattle.list_affine_ds.proofs.affine_ds_in.Statement.{statement}
+use Rattle.list_affine_ds.proofs.affine_ds_in.Tie as tie
 
 pub affine-ds-in-spec : {M : Type 1} → statement M
 affine-ds-in-spec =
