@@ -1,2 +1,2 @@
--- `Laws`: of a loop that folds two entries a turn, and of halves.
+-- `Laws`: of a loop that folds two entries a turn.
 pub mod Laws
