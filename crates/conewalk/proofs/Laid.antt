@@ -15,7 +15,7 @@ use Rattle.conelist.specs.declared.Kind.{Kind}
 use Rattle.conelist.specs.declared.Cone.{Cone}
 use Rattle.conelist.specs.Layout.{Dim, LeastDim, BlockDim, KindAt, Before, BadRecord, BadRecords, BadPlace, LaidAt, Found, PlaceOf, Carried, Counted, Misplaced, Spot}
 use Rattle.conelist.proofs.Blocks.{block-most}
-use Rattle.conewalk.proofs.Records.{good}
+use Rattle.place_turns.proofs.Records.{good}
 use Rattle.conewalk.proofs.Walked.{before-cons}
 
 -- ---- a range ends where the next begins, so none is past the end of all

@@ -16,9 +16,9 @@ use Rattle.conelist.specs.declared.Cone.{Cone}
 use Rattle.conelist.specs.declared.Place.{Place}
 use Rattle.conelist.specs.Layout.{Dim, BlockDim, KindAt, Before, BadRecord, BadRecords, Alone, Found, PlaceOf}
 use Rattle.walks.specs.Records.{noCone, OverRecords}
-use Rattle.conewalk.specs.Walk.{PlaceOpening, PlaceSeen, PlaceFurther, PlaceClosing, Going}
+use Rattle.place_turns.specs.Walk.{PlaceOpening, PlaceSeen, PlaceFurther, PlaceClosing, Going}
 use Rattle.conelist.proofs.Blocks.{block-most}
-use Rattle.conewalk.proofs.Records.{good}
+use Rattle.place_turns.proofs.Records.{good}
 
 -- ---- its sums stay small: behind i records
 

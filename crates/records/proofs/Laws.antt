@@ -10,7 +10,7 @@ use Rattle.conelist.specs.declared.Place.{Place}
 use Rattle.conelist.specs.declared.Cone.{Cone}
 use Rattle.conelist.specs.Layout.{PlaceOf}
 use Rattle.walks.specs.Records.{OverRecords}
-use Rattle.conewalk.specs.Walk.{PlaceOpening, PlaceFurther, PlaceClosing, Going}
+use Rattle.place_turns.specs.Walk.{PlaceOpening, PlaceFurther, PlaceClosing, Going}
 use Rattle.conewalk.proofs.Walked.{Along, along-start, along-step, walked}
 use Rattle.records.specs.Record.{ConeOf, Cones}
 

@@ -33,11 +33,11 @@ pub fn cone_of(r: [usize; 3]) -> Cone
 pub fn place_of(list: &[[usize; 3]], k: usize) -> Place
     ensures { λ r. ⌜ r ≡ PlaceOf (Cones (now (list .entry))) k ⌝ }
 {
-    let mut p = conewalk::place_opening(list.len(), k);
+    let mut p = place_turns::place_opening(list.len(), k);
     let mut i = 0;
     while i < list.len() {
-        p = conewalk::place_further(p, cone_of(list[i]));
+        p = place_turns::place_further(p, cone_of(list[i]));
         i += 1;
     }
-    conewalk::place_closing(p)
+    place_turns::place_closing(p)
 }

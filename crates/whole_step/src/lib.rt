@@ -6,8 +6,11 @@ use answers::Steps;
 use conelist::Cone;
 use conelist::Kind;
 ghost use mathlib.Core.Path.{_≡_};
+ghost use Prim.Native.Nat.{_+_, _≤_};
+ghost use lib.ListN.{length};
 ghost use Rattle.answers.specs.Refusal.{_⊳_, Unlike, BadLimit};
 ghost use Rattle.answers.specs.Outcome.{tells, ofSteps};
+ghost use Rattle.conelist.specs.Layout.{Part};
 ghost use Rattle.whole_step.specs.List.{ListStepLength};
 ghost use Rattle.whole_step.specs.Walk.{StepOpening, Reached, Taken, StepFurther, StepClosing};
 
@@ -31,24 +34,33 @@ pub fn step_opening(cones: usize, limit: f64) -> Walk
     }
 }
 
+// n entries of y, from `at` on.
+fn part(y: &[f64], at: usize, n: usize) -> &[f64]
+    requires { ⌜ at + n ≤ length (now y) ⌝ }
+    ensures { λ r. ⌜ now r ≡ Part at n (now (y .entry)) ⌝ }
+    ensures { λ r. ⌜ length (now r) ≡ n ⌝ }
+{
+    &y[at..at + n]
+}
+
 // Over a cone that every slice reaches: its own steps, each at the caller's limit.
 fn taken(w: Walk, kind: Kind, dz: &[f64], ds: &[f64], z: &[f64], s: &[f64], limit: f64) -> Walk
     requires { ⌜ Reached w kind (now dz) (now ds) (now z) (now s) ⌝ }
     ensures { λ r. ⌜ r ≡ Taken w kind (now (dz .entry)) (now (ds .entry)) (now (z .entry)) (now (s .entry)) limit ⌝ }
 {
     let at = w.total;
-    let end = at + conelist::dim(kind);
+    let n = conelist::dim(kind);
     let own = list_step::kind_step_length(
         kind,
-        &dz[at..end],
-        &ds[at..end],
-        &z[at..end],
-        &s[at..end],
+        part(dz, at, n),
+        part(ds, at, n),
+        part(z, at, n),
+        part(s, at, n),
         limit,
     );
     Walk {
         no: 0,
-        total: end,
+        total: at + n,
         z: extrema::least(w.z, own.z),
         s: extrema::least(w.s, own.s),
     }
@@ -71,7 +83,7 @@ pub fn step_further(
         return w;
     }
     let total = w.total;
-    let no = conewalk::record_refusal(total, c);
+    let no = place_turns::record_refusal(total, c);
     if no != 0 {
         return Walk {
             no,

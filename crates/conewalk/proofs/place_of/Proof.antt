@@ -1,17 +1,17 @@
 -- `conewalk::place_of` meets its contract: a walk of the list, by the law of walks. Written by tools/proof. Assumes nothing.
 use Rattle.walks.proofs.Law.{_≡_, refl, ap, false, List, [], _∷_, length, emp, id⊢, fact, factI, givenOf, usize, known-struct, proved, Par, plain, Ws, known, a-usize, walks}
 use Rattle.conelist.specs.Layout.{PlaceOf}
-use Rattle.conewalk.specs.Walk.{PlaceOpening, PlaceFurther, PlaceClosing, Going}
+use Rattle.place_turns.specs.Walk.{PlaceOpening, PlaceFurther, PlaceClosing, Going}
 use Rattle.conewalk.proofs.Walked.{place-of-holds, place-of-start, place-of-turn, place-of-asks, place-of-closes}
 use Rattle.conelist.specs.declared.Place.{Place}
 use Rattle.conelist.proofs.Place as Place′
 use Rattle.conelist.proofs.Place.Laws as Place-laws
-use Rattle.conewalk.proofs.place_opening.Symbol as opening-def
-use Rattle.conewalk.proofs.place_opening.Met as opening-thm
-use Rattle.conewalk.proofs.place_further.Symbol as further-def
-use Rattle.conewalk.proofs.place_further.Met as further-thm
-use Rattle.conewalk.proofs.place_closing.Symbol as closing-def
-use Rattle.conewalk.proofs.place_closing.Met as closing-thm
+use Rattle.place_turns.proofs.place_opening.Symbol as opening-def
+use Rattle.place_turns.proofs.place_opening.Met as opening-thm
+use Rattle.place_turns.proofs.place_further.Symbol as further-def
+use Rattle.place_turns.proofs.place_further.Met as further-thm
+use Rattle.place_turns.proofs.place_closing.Symbol as closing-def
+use Rattle.place_turns.proofs.place_closing.Met as closing-thm
 use Rattle.conewalk.proofs.place_of as f
 use Rattle.conewalk.proofs.place_of.Key as key
 use Rattle.conewalk.proofs.place_of.Statement as stated
@@ -33,9 +33,9 @@ place-of-spec 𝓤 H 𝓜 𝓖 𝓡 =
     (λ h v r ws. r ≡ PlaceOpening (h .0) (v .0))
     (λ h v r ws. r ≡ PlaceFurther (h .0) (h .1 .0))
     (λ h v r ws. r ≡ PlaceClosing (h .0))
-    opening-def.name opening-def.routine code.calls-conewalk·place-opening (λ y. opening-thm.met 𝓤 H 𝓜 𝓖 𝓡 ((y .0, y .1, tt, (y .2 .0, y .3), (y .4 .0, y .5)), tt))
-    further-def.name further-def.routine code.calls-conewalk·place-further (λ y. further-thm.met 𝓤 H 𝓜 𝓖 𝓡 ((y .0, y .1, tt, (y .2 .0, (y .2 .1 .0, y .3)), (y .4 .0, (y .4 .1 .0, y .5))), tt))
-    closing-def.name closing-def.routine code.calls-conewalk·place-closing (λ y. closing-thm.met 𝓤 H 𝓜 𝓖 𝓡 ((y .0, y .1, tt, (y .2 .0, y .3), (y .4 .0, y .5)), tt))
+    opening-def.name opening-def.routine code.calls-place-turns·place-opening (λ y. opening-thm.met 𝓤 H 𝓜 𝓖 𝓡 ((y .0, y .1, tt, (y .2 .0, y .3), (y .4 .0, y .5)), tt))
+    further-def.name further-def.routine code.calls-place-turns·place-further (λ y. further-thm.met 𝓤 H 𝓜 𝓖 𝓡 ((y .0, y .1, tt, (y .2 .0, (y .2 .1 .0, y .3)), (y .4 .0, (y .4 .1 .0, y .5))), tt))
+    closing-def.name closing-def.routine code.calls-place-turns·place-closing (λ y. closing-thm.met 𝓤 H 𝓜 𝓖 𝓡 ((y .0, y .1, tt, (y .2 .0, y .3), (y .4 .0, y .5)), tt))
     fm (κs .0) (qs .0) (a .0) (are .0 .0 .1) (κs .1) (qs .1) (a .1)
     into (PlaceOpening (length (a .0 .now)) (a .1 .0)) (λ z c. PlaceFurther z c)
     (λ r ws. r ≡ PlaceOf (a .0 .now) (a .1 .0))

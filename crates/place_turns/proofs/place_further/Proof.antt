@@ -1,8 +1,8 @@
--- `conewalk::place_further` meets its contract. Assumes nothing.
+-- `place_turns::place_further` meets its contract. Assumes nothing.
 use borrow.Author.Needs.{needs}
-use Rattle.conewalk.proofs.Records.{steps}
-use Rattle.conewalk.proofs.place_further.Statement.{statement}
-use Rattle.conewalk.proofs.place_further.Tie as tie
+use Rattle.place_turns.proofs.Records.{steps}
+use Rattle.place_turns.proofs.place_further.Statement.{statement}
+use Rattle.place_turns.proofs.place_further.Tie as tie
 
 pub place-further-spec : {M : Type 1} → statement M
 place-further-spec =

@@ -1,4 +1,4 @@
--- How `place_of` goes over the records. That it comes to `PlaceOf` is proved: proofs/Walked. Assumes nothing.
+-- How `conewalk::place_of` goes over the records. That it comes to `PlaceOf` is proved: crates/conewalk/proofs/Walked. Assumes nothing.
 use Prim.Native.Nat.{ℕ, _+_, _*_, _≤_, _<_, _^_}
 use mathlib.Core.Bool.{cond}
 use lib.Dec.{ltb, eqb}

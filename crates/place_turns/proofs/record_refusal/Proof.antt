@@ -1,11 +1,11 @@
--- `conewalk::record_refusal` meets its contract. Assumes nothing.
+-- `place_turns::record_refusal` meets its contract. Assumes nothing.
 use native.Mathlib.Omega.{arith}
 use mathlib.Core.Path.{sym, _∙_}
 use borrow.Author.Needs.{needs}
 use Rattle.answers.proofs.Laws.{clear-dimension}
-use Rattle.conewalk.proofs.Records.{records}
-use Rattle.conewalk.proofs.record_refusal.Statement.{statement}
-use Rattle.conewalk.proofs.record_refusal.Tie as tie
+use Rattle.place_turns.proofs.Records.{records}
+use Rattle.place_turns.proofs.record_refusal.Statement.{statement}
+use Rattle.place_turns.proofs.record_refusal.Tie as tie
 
 pub record-refusal-spec : {M : Type 1} → statement M
 record-refusal-spec =

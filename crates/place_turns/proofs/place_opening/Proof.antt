@@ -1,9 +1,9 @@
--- `conewalk::place_opening` meets its contract. Assumes nothing.
+-- `place_turns::place_opening` meets its contract. Assumes nothing.
 use borrow.Author.Needs.{needs}
 use borrow.Author.Tests.{lt-ltb, le-ltb}
-use Rattle.conewalk.specs.Walk.{PlaceOpening}
-use Rattle.conewalk.proofs.place_opening.Statement.{statement}
-use Rattle.conewalk.proofs.place_opening.Tie as tie
+use Rattle.place_turns.specs.Walk.{PlaceOpening}
+use Rattle.place_turns.proofs.place_opening.Statement.{statement}
+use Rattle.place_turns.proofs.place_opening.Tie as tie
 
 pub place-opening-spec : {M : Type 1} → statement M
 unfolding PlaceOpening

@@ -11,7 +11,7 @@ use Rattle.conelist.specs.declared.Cone.{Cone}
 use Rattle.conelist.specs.declared.Place.{Place}
 use Rattle.conelist.specs.Layout.{Dim, LeastDim, BlockDim, BadRecord, Alone, Found}
 use Rattle.conelist.proofs.Blocks.{block-most}
-use Rattle.conewalk.specs.Walk.{PlaceSeen, PlaceFurther, PlaceClosing, Going}
+use Rattle.place_turns.specs.Walk.{PlaceSeen, PlaceFurther, PlaceClosing, Going}
 
 -- ---- a record that is not refused
 

@@ -1,8 +1,0 @@
--- `conewalk::place_closing` meets its contract. Assumes nothing.
-use borrow.Author.Needs.{needs}
-use Rattle.conewalk.proofs.Records.{closings}
-use Rattle.conewalk.proofs.place_closing.Statement.{statement}
-use Rattle.conewalk.proofs.place_closing.Tie as tie
-
-pub place-closing-spec : {M : Type 1} → statement M
-place-closing-spec = tie.close (tie.spec (λ c. search closings) (λ c κs. search needs) (λ c. search closings) (λ c. search closings))

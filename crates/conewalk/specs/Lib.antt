@@ -1,2 +1,0 @@
--- `Walk`: how `place_of` goes over the records.
-pub mod Walk

@@ -1,0 +1,2 @@
+-- `Walk`: the turns of the walk over the records.
+pub mod Walk
