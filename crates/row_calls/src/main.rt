@@ -19,10 +19,35 @@ fn begin(call: &[u8], k: usize) {
     show::text(b": ");
 }
 
-fn say(a: Answer) {
+fn say(call: &[u8], k: usize, a: Answer) {
+    begin(call, k);
     match a {
         Answer::Done => show::text(b"done"),
         Answer::Refused(no) => show::refused(no),
+    }
+}
+
+fn say_scaling(call: &[u8], k: usize, a: Scaling) {
+    begin(call, k);
+    match a {
+        Scaling::Truth(t) => {
+            if t {
+                show::text(b"true");
+            } else {
+                show::text(b"false");
+            }
+        }
+        Scaling::Refused(no) => show::refused(no),
+    }
+}
+
+fn say_standing(s: Standing) {
+    match s {
+        Standing::Inside => show::text(b"inside"),
+        Standing::Edge => show::text(b"edge"),
+        Standing::Outside => show::text(b"outside"),
+        Standing::Mirrored => show::text(b"mirrored"),
+        Standing::NotNumber => show::text(b"not a number"),
     }
 }
 
@@ -45,6 +70,23 @@ fn holds(x: &[f64]) {
         entry(x[i]);
         i += 1;
     }
+}
+
+// The line of a call that writes one buffer.
+fn line(call: &[u8], k: usize, a: Answer, x: &[f64]) {
+    say(call, k, a);
+    holds(x);
+    show::newline();
+}
+
+// Five buffers, and the line's end.
+fn five(a: &[f64], b: &[f64], c: &[f64], d: &[f64], e: &[f64]) {
+    holds(a);
+    holds(b);
+    holds(c);
+    holds(d);
+    holds(e);
+    show::newline();
 }
 
 fn holds_row(r: Row) {
@@ -98,48 +140,49 @@ fn margins(first: &[f64]) {
 }
 
 fn scaled_unit_shift() {
-    begin(b"scaled_unit_shift", 0);
     let mut z = first_ten();
-    say(local_calls::scaled_unit_shift(row(), 3, 0, &mut z, 0.5));
-    holds(&z);
-    show::newline();
+    let a = local_calls::scaled_unit_shift(row(), 3, 0, &mut z, 0.5);
+    line(b"scaled_unit_shift", 0, a, &z);
 }
 
 fn unit_initialization() {
-    begin(b"unit_initialization", 1);
     let mut z = first_ten();
     let mut s = second_ten();
-    say(local_calls::unit_initialization(row(), 3, 1, &mut z, &mut s));
+    let a = local_calls::unit_initialization(row(), 3, 1, &mut z, &mut s);
+    say(b"unit_initialization", 1, a);
     holds(&z);
     holds(&s);
     show::newline();
 }
 
 fn set_identity_scaling() {
-    begin(b"set_identity_scaling", 2);
     let mut w = scale_ten();
     let mut u = first_ten();
     let mut v = second_ten();
     let mut eta = [3.0; 3];
     let mut d = [4.0; 3];
-    say(local_calls::set_identity_scaling(row(), 3, 2, &mut w, &mut u, &mut v, &mut eta, &mut d));
-    holds(&w);
-    holds(&u);
-    holds(&v);
-    holds(&eta);
-    holds(&d);
-    show::newline();
+    let a = local_calls::set_identity_scaling(
+        row(),
+        3,
+        2,
+        &mut w,
+        &mut u,
+        &mut v,
+        &mut eta,
+        &mut d,
+    );
+    say(b"set_identity_scaling", 2, a);
+    five(&w, &u, &v, &eta, &d);
 }
 
 fn update_scaling(first: &[f64], second: &[f64]) {
-    begin(b"update_scaling", 2);
     let mut w = scale_ten();
     let mut lambda = point_ten();
     let mut u = first_ten();
     let mut v = second_ten();
     let mut eta = [3.0; 3];
     let mut d = [4.0; 3];
-    match local_calls::update_scaling(
+    let a = local_calls::update_scaling(
         row(),
         3,
         2,
@@ -151,31 +194,16 @@ fn update_scaling(first: &[f64], second: &[f64]) {
         &mut v,
         &mut eta,
         &mut d,
-    ) {
-        Scaling::Truth(t) => {
-            if t {
-                show::text(b"true");
-            } else {
-                show::text(b"false");
-            }
-        }
-        Scaling::Refused(no) => show::refused(no),
-    }
+    );
+    say_scaling(b"update_scaling", 2, a);
     holds(&w);
-    holds(&lambda);
-    holds(&u);
-    holds(&v);
-    holds(&eta);
-    holds(&d);
-    show::newline();
+    five(&lambda, &u, &v, &eta, &d);
 }
 
 fn get_hs(scale: &[f64]) {
-    begin(b"get_hs", 1);
     let mut hs = [7.0; 13];
-    say(local_calls::get_hs(row(), 3, 1, &mut hs, scale, &[2.0; 3], &[0.5; 3]));
-    holds(&hs);
-    show::newline();
+    let a = local_calls::get_hs(row(), 3, 1, &mut hs, scale, &[2.0; 3], &[0.5; 3]);
+    line(b"get_hs", 1, a, &hs);
 }
 
 fn square_hs(scale: &[f64]) {
@@ -191,65 +219,50 @@ fn square_hs(scale: &[f64]) {
 }
 
 fn mul_w(second: &[f64], scale: &[f64]) {
-    begin(b"mul_w", 2);
     let mut y = first_ten();
-    say(local_calls::mul_w(row(), 3, 2, &mut y, second, 2.0, 3.0, scale, &[2.0; 3]));
-    holds(&y);
-    show::newline();
+    let a = local_calls::mul_w(row(), 3, 2, &mut y, second, 2.0, 3.0, scale, &[2.0; 3]);
+    line(b"mul_w", 2, a, &y);
 }
 
 fn mul_winv(second: &[f64], scale: &[f64]) {
-    begin(b"mul_winv", 1);
     let mut y = first_ten();
-    say(local_calls::mul_winv(row(), 3, 1, &mut y, second, 2.0, 3.0, scale, &[2.0; 3]));
-    holds(&y);
-    show::newline();
+    let a = local_calls::mul_winv(row(), 3, 1, &mut y, second, 2.0, 3.0, scale, &[2.0; 3]);
+    line(b"mul_winv", 1, a, &y);
 }
 
 fn mul_hs(second: &[f64], scale: &[f64]) {
-    begin(b"mul_hs", 0);
     let mut y = point_ten();
-    say(local_calls::mul_hs(row(), 3, 0, &mut y, second, scale, &[2.0; 3]));
-    holds(&y);
-    show::newline();
+    let a = local_calls::mul_hs(row(), 3, 0, &mut y, second, scale, &[2.0; 3]);
+    line(b"mul_hs", 0, a, &y);
 }
 
 fn circ_op(first: &[f64], second: &[f64]) {
-    begin(b"circ_op", 1);
     let mut x = point_ten();
-    say(local_calls::circ_op(row(), 3, 1, &mut x, first, second));
-    holds(&x);
-    show::newline();
+    let a = local_calls::circ_op(row(), 3, 1, &mut x, first, second);
+    line(b"circ_op", 1, a, &x);
 }
 
 fn affine_ds(point: &[f64]) {
-    begin(b"affine_ds", 2);
     let mut ds = first_ten();
-    say(local_calls::affine_ds(row(), 3, 2, &mut ds, point));
-    holds(&ds);
-    show::newline();
+    let a = local_calls::affine_ds(row(), 3, 2, &mut ds, point);
+    line(b"affine_ds", 2, a, &ds);
 }
 
 fn inv_circ_op(first: &[f64], second: &[f64]) {
-    begin(b"inv_circ_op", 0);
     let mut x = point_ten();
-    say(local_calls::inv_circ_op(row(), 3, 0, &mut x, first, second));
-    holds(&x);
-    show::newline();
+    let a = local_calls::inv_circ_op(row(), 3, 0, &mut x, first, second);
+    line(b"inv_circ_op", 0, a, &x);
 }
 
 fn lambda_inv_circ_op(second: &[f64], point: &[f64]) {
-    begin(b"lambda_inv_circ_op", 1);
     let mut x = first_ten();
-    say(local_calls::lambda_inv_circ_op(row(), 3, 1, &mut x, second, point));
-    holds(&x);
-    show::newline();
+    let a = local_calls::lambda_inv_circ_op(row(), 3, 1, &mut x, second, point);
+    line(b"lambda_inv_circ_op", 1, a, &x);
 }
 
 fn ds_from_dz_offset(first: &[f64], second: &[f64], scale: &[f64], point: &[f64]) {
-    begin(b"ds_from_dz_offset", 1);
     let mut out = first_ten();
-    say(local_calls::ds_from_dz_offset(
+    let a = local_calls::ds_from_dz_offset(
         row(),
         3,
         1,
@@ -259,17 +272,15 @@ fn ds_from_dz_offset(first: &[f64], second: &[f64], scale: &[f64], point: &[f64]
         scale,
         point,
         &[2.0; 3],
-    ));
-    holds(&out);
-    show::newline();
+    );
+    line(b"ds_from_dz_offset", 1, a, &out);
 }
 
 fn combined_ds_shift(scale: &[f64]) {
-    begin(b"combined_ds_shift", 2);
     let mut shift = point_ten();
     let mut step_z = first_ten();
     let mut step_s = second_ten();
-    say(local_calls::combined_ds_shift(
+    let a = local_calls::combined_ds_shift(
         row(),
         3,
         2,
@@ -279,7 +290,8 @@ fn combined_ds_shift(scale: &[f64]) {
         0.5,
         scale,
         &[2.0; 3],
-    ));
+    );
+    say(b"combined_ds_shift", 2, a);
     holds(&shift);
     holds(&step_z);
     holds(&step_s);
@@ -298,13 +310,7 @@ fn step_length(first: &[f64], second: &[f64]) {
 fn standing(first: &[f64]) {
     begin(b"standing", 2);
     match local_calls::standing(row(), 3, 2, first) {
-        Stands::As(s) => match s {
-            Standing::Inside => show::text(b"inside"),
-            Standing::Edge => show::text(b"edge"),
-            Standing::Outside => show::text(b"outside"),
-            Standing::Mirrored => show::text(b"mirrored"),
-            Standing::NotNumber => show::text(b"not a number"),
-        },
+        Stands::As(s) => say_standing(s),
         Stands::Refused(no) => show::refused(no),
     }
     show::newline();
