@@ -29,6 +29,12 @@ pub fn contents(x: &[f64]) {
     }
 }
 
+// What a slice of one entry holds.
+pub fn single(x: f64) {
+    show::text(b" |");
+    number(x);
+}
+
 fn refusal(no: u8) {
     show::decimal(no as u64);
 }

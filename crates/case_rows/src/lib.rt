@@ -26,7 +26,7 @@ fn records(words: &[u64], n: usize, out: &mut [[usize; 3]])
 // A row of n records, with which the words begin.
 pub fn list_of(n: usize, words: &[u64], out: &mut [[usize; 3]; 260]) -> Cut
     ensures { λ r. ⌜ record { cut = r; holds = now (out .exit) } ≡ ListOf n (now (words .entry)) (now (out .entry)) ⌝ }
-    ensures { λ r. ⌜ Counts (r .length) (now (out .exit)) ⌝ }
+    ensures { λ r. ⌜ Counts (r .length) (now (out .exit)) × (r .at ≤ length (now (words .entry))) ⌝ }
 {
     if 260 < n {
         return case_words::stop(8);

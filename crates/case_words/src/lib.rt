@@ -1,20 +1,13 @@
-// What the words of a recorded case say behind its row (docs/CASES.md): its slices. Of our own; nothing is ported.
+// What the words of a recorded case say behind its row (docs/CASES.md): its slices, and the doubles that they hold. Of our own; nothing is
+// ported.
 //
 // What is wrong with them is told by a number: 6 words that are missing, 7 a slice of over 64 entries, 8 a row of over 260 records, 9 words
 // that are left over.
 ghost use mathlib.Core.Path.{_≡_};
-ghost use Prim.Native.Nat.{_≤_, _+_};
+ghost use Prim.Native.Nat.{_≤_};
 ghost use lib.ListN.{length};
 ghost use lib.Ieee.{binary64, ofBits};
-ghost use Rattle.cases.specs.Text.{Counts};
-ghost use Rattle.case_words.specs.Words.{Numbers, Stop, Slice, Behind, Left};
-
-// A case but for its row and its slices: the call's number, and its numbers.
-pub struct Head {
-    pub call: u64,
-    pub a: f64,
-    pub b: f64,
-}
+ghost use Rattle.case_words.specs.Words.{Stop, Slice, Behind, Nth, Left, Numbers};
 
 // What was read of a case's words: where the next begins, how many records or entries there were, and what is wrong, 0 for nothing.
 pub struct Cut {
@@ -33,32 +26,11 @@ pub fn stop(fault: u8) -> Cut
     }
 }
 
-// The double with the bits b; any NaN's stand for NaN.
-pub fn double(b: u64) -> f64
-    ensures { λ r. ⌜ r ≡ ofBits binary64 b ⌝ }
-{
-    if 0x7ff0_0000_0000_0000 < b % 0x8000_0000_0000_0000 {
-        return 0.0 / 0.0;
-    }
-    f64::from_bits(b)
-}
-
-// n doubles, by their bits, from `from` on.
-fn numbers(words: &[u64], from: usize, n: usize, out: &mut [f64])
-    requires { ⌜ (from + n ≤ length (now words)) × (n ≤ length (now out)) ⌝ }
-    ensures { λ _. ⌜ now (out .exit) ≡ Numbers (now (words .entry)) from n (now (out .entry)) ⌝ }
-{
-    let mut i = 0;
-    while i < n {
-        out[i] = double(words[from + i]);
-        i += 1;
-    }
-}
+// ---- where the slices lie
 
 // The slice at a place: its length, and its entries.
-pub fn slice(at: usize, words: &[u64], out: &mut [f64; 64]) -> Cut
-    ensures { λ r. ⌜ record { cut = r; holds = now (out .exit) } ≡ Slice at (now (words .entry)) (now (out .entry)) ⌝ }
-    ensures { λ r. ⌜ Counts (r .length) (now (out .exit)) ⌝ }
+fn slice(words: &[u64], at: usize) -> Cut
+    ensures { λ r. ⌜ r ≡ Slice (now (words .entry)) at ⌝ }
 {
     if words.len() <= at {
         return stop(6);
@@ -71,7 +43,6 @@ pub fn slice(at: usize, words: &[u64], out: &mut [f64; 64]) -> Cut
     if words.len() - from < n {
         return stop(6);
     }
-    numbers(words, from, n, out);
     Cut {
         at: from + n,
         length: n,
@@ -80,22 +51,59 @@ pub fn slice(at: usize, words: &[u64], out: &mut [f64; 64]) -> Cut
 }
 
 // The slice behind what is read so far; what is wrong stays.
-pub fn behind(had: Cut, words: &[u64], out: &mut [f64; 64]) -> Cut
-    ensures { λ r. ⌜ record { cut = r; holds = now (out .exit) } ≡ Behind had (now (words .entry)) (now (out .entry)) ⌝ }
-    ensures { λ r. ⌜ Counts (r .length) (now (out .exit)) ⌝ }
+fn behind(words: &[u64], had: Cut) -> Cut
+    ensures { λ r. ⌜ r ≡ Behind (now (words .entry)) had ⌝ }
 {
     if had.fault != 0 {
-        return stop(had.fault);
+        return had;
     }
-    slice(had.at, words, out)
+    slice(words, had.at)
 }
 
-// What is wrong once all is read: 9, words are left over.
-pub fn left(had: Cut, words: &[u64]) -> u8
-    ensures { λ r. ⌜ r ≡ Left had (length (now (words .entry))) ⌝ }
+// Slice k, counted from 1 on.
+pub fn nth(words: &[u64], k: usize) -> Cut
+    ensures { λ r. ⌜ r ≡ Nth (now (words .entry)) k ⌝ }
 {
+    let mut cut = stop(0);
+    let mut i = 0;
+    while i < k {
+        cut = behind(words, cut);
+        i += 1;
+    }
+    cut
+}
+
+// What is wrong with the words of k slices: 9, words are left over.
+pub fn wrong(words: &[u64], k: usize) -> u8
+    ensures { λ r. ⌜ r ≡ Left (now (words .entry)) (Nth (now (words .entry)) k) ⌝ }
+{
+    let had = nth(words, k);
     if had.fault != 0 {
         return had.fault;
     }
     if had.at == words.len() { 0 } else { 9 }
+}
+
+// ---- what they hold
+
+// The double with the bits b; any NaN's stand for NaN.
+pub fn double(b: u64) -> f64
+    ensures { λ r. ⌜ r ≡ ofBits binary64 b ⌝ }
+{
+    if 0x7ff0_0000_0000_0000 < b % 0x8000_0000_0000_0000 {
+        return 0.0 / 0.0;
+    }
+    f64::from_bits(b)
+}
+
+// Each word's double, at its own place.
+pub fn numbers(words: &[u64], out: &mut [f64])
+    requires { ⌜ length (now words) ≤ length (now out) ⌝ }
+    ensures { λ _. ⌜ now (out .exit) ≡ Numbers (now (words .entry)) (now (out .entry)) ⌝ }
+{
+    let mut i = 0;
+    while i < words.len() {
+        out[i] = double(words[i]);
+        i += 1;
+    }
 }

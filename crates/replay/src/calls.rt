@@ -1,0 +1,479 @@
+// Each call once, with its parameters in order, told: the answer, then what the slices hold that it writes. Of our own; nothing is ported.
+//
+// What a call reads is lent of the numbers of all the words; each slice that it writes, of a copy of its own.
+use crate::slices;
+use answers::Answer;
+use answers::Margins;
+use answers::Number;
+use answers::Square;
+use answers::Stands;
+use answers::Step;
+use answers::Steps;
+use conelist::Place;
+
+// A case but for its slices: the call's number, the call's numbers, the cone that it names, how many slices there are, and how many of
+// them the call writes.
+pub struct Case {
+    pub call: u64,
+    pub a: f64,
+    pub b: f64,
+    pub place: Place,
+    pub slices: usize,
+    pub written: usize,
+}
+
+// ---- a call that writes nothing: its answer
+
+fn number(c: Case) -> f64 {
+    let call = c.call;
+    match call {
+        0 => root::sqrt(c.a),
+        1 => extrema::least(c.a, c.b),
+        _ => extrema::greatest(c.a, c.b),
+    }
+}
+
+fn margins(c: Case, z: &[f64]) -> Margins {
+    let call = c.call;
+    match call {
+        0x100 => soc_units::soc_margins(z),
+        0x200 => nn_units::nn_margins(z),
+        _ => list_margins::margins_at(c.place, z),
+    }
+}
+
+fn stands(c: Case, z: &[f64]) -> Stands {
+    let call = c.call;
+    match call {
+        0x111 => standing::soc_standing(z),
+        0x211 => standing::nn_standing(z),
+        _ => list_standing::standing_at(c.place, z),
+    }
+}
+
+fn residual(c: Case, z: &[f64], dz: &[f64]) -> Number {
+    let call = c.call;
+    match call {
+        0x113 => soc_residual::soc_residual(z),
+        0x114 => soc_residual::soc_residual_shifted(z, dz, c.a),
+        _ => soc_residual::sqrt_soc_residual(z),
+    }
+}
+
+fn step(c: Case, z: &[f64], dz: &[f64]) -> Step {
+    let call = c.call;
+    match call {
+        0x112 => soc_step::soc_step(z, dz, c.a),
+        _ => nn_step::nn_step(z, dz, c.a),
+    }
+}
+
+fn square(c: Case, w: &[f64], eta: &[f64], number: f64) -> Square {
+    let call = c.call;
+    match call {
+        0x106 => soc_square::soc_square_hs(w, &number),
+        _ => list_square::square_hs_at(c.place, w, eta),
+    }
+}
+
+fn steps(c: Case, row: &[[usize; 3]], dz: &[f64], ds: &[f64], z: &[f64], s: &[f64]) -> Steps {
+    let call = c.call;
+    match call {
+        0x10b => soc_step::soc_step_length(dz, ds, z, s, c.a),
+        0x20b => nn_step::nn_step_length(dz, ds, z, s, c.a),
+        0x312 => records_step::list_step_length(row, dz, ds, z, s, c.a),
+        _ => list_step::step_length_at(c.place, dz, ds, z, s, c.a),
+    }
+}
+
+fn reads(c: Case, words: &[u64], held: &[f64]) {
+    let x = slices::part(words, held, 1);
+    let y = slices::part(words, held, 2);
+    match c.call % 256 {
+        0x00 => case_answers::margins(margins(c, x)),
+        0x06 => case_answers::square(square(c, x, y, slices::number(words, held, 2))),
+        0x11 => case_answers::stands(stands(c, x)),
+        0x12 => case_answers::step(step(c, x, y)),
+        _ => case_answers::residual(residual(c, x, y)),
+    }
+}
+
+fn reads_four(c: Case, row: &[[usize; 3]], words: &[u64], held: &[f64]) {
+    case_answers::steps(steps(
+        c,
+        row,
+        slices::part(words, held, 1),
+        slices::part(words, held, 2),
+        slices::part(words, held, 3),
+        slices::part(words, held, 4),
+    ));
+}
+
+// ---- a call that writes one slice
+
+// and reads none
+
+fn from_none(c: Case, z: &mut [f64]) -> Answer {
+    let call = c.call;
+    match call {
+        0x101 => soc_units::soc_scaled_unit_shift(z, c.a),
+        0x201 => nn_units::nn_scaled_unit_shift(z, c.a),
+        0x203 => nn_identity::nn_set_identity_scaling(z),
+        _ => list_unit_shift::scaled_unit_shift_at(c.place, z, c.a),
+    }
+}
+
+// and reads one
+
+fn from_one(c: Case, x: &mut [f64], y: &[f64]) -> Answer {
+    let call = c.call;
+    match call {
+        0x108 => soc_jordan::soc_affine_ds(x, y),
+        0x205 => nn_blocks::nn_get_hs(x, y),
+        0x208 => nn_jordan::nn_affine_ds(x, y),
+        _ => list_affine_ds::affine_ds_at(c.place, x, y),
+    }
+}
+
+// and reads two
+
+fn nonnegative_from_two(c: Case, x: &mut [f64], y: &[f64], z: &[f64]) -> Answer {
+    let call = c.call;
+    match call {
+        0x207 => nn_mul_hs::nn_mul_hs(x, y, z),
+        0x20a => nn_offset::nn_ds_from_dz_offset(x, y, z),
+        0x20c => nn_products::nn_mul_w(x, y, c.a, c.b, z),
+        0x20d => nn_products::nn_mul_winv(x, y, c.a, c.b, z),
+        0x20e => nn_jordan::nn_circ_op(x, y, z),
+        0x20f => nn_inverse::nn_inv_circ_op(x, y, z),
+        _ => nn_inverse::nn_lambda_inv_circ_op(x, y, z),
+    }
+}
+
+fn from_two(c: Case, x: &mut [f64], y: &[f64], z: &[f64]) -> Answer {
+    let call = c.call;
+    match call {
+        0x10e => soc_jordan::soc_circ_op(x, y, z),
+        0x10f => soc_inverse::soc_inv_circ_op(x, y, z),
+        0x110 => soc_inverse::soc_lambda_inv_circ_op(x, y, z),
+        0x30e => list_jordan::circ_op_at(c.place, x, y, z),
+        0x30f => list_inverse::inv_circ_op_at(c.place, x, y, z),
+        0x310 => list_inverse::lambda_inv_circ_op_at(c.place, x, y, z),
+        _ => nonnegative_from_two(c, x, y, z),
+    }
+}
+
+// and reads three, the second-order cone's with numbers lent
+
+fn second_order_from_three(
+    c: Case,
+    y: &mut [f64],
+    x: &[f64],
+    w: &[f64],
+    eta: f64,
+    last: f64,
+) -> Answer {
+    let call = c.call;
+    match call {
+        0x105 => soc_blocks::soc_get_hs(y, x, &eta, &last),
+        0x107 => soc_mul_hs::soc_mul_hs(y, x, w, &last),
+        0x10c => soc_products::soc_mul_w(y, x, c.a, c.b, w, &last),
+        _ => soc_products::soc_mul_winv(y, x, c.a, c.b, w, &last),
+    }
+}
+
+fn list_from_three(c: Case, y: &mut [f64], x: &[f64], w: &[f64], eta: &[f64]) -> Answer {
+    let call = c.call;
+    match call {
+        0x305 => list_blocks::get_hs_at(c.place, y, x, w, eta),
+        0x307 => list_mul_hs::mul_hs_at(c.place, y, x, w, eta),
+        0x30c => list_products::mul_w_at(c.place, y, x, c.a, c.b, w, eta),
+        _ => list_mul_winv::mul_winv_at(c.place, y, x, c.a, c.b, w, eta),
+    }
+}
+
+fn from_three(c: Case, words: &[u64], held: &[f64], y: &mut [f64], x: &[f64], w: &[f64]) -> Answer {
+    if c.call / 256 == 1 {
+        let eta = slices::number(words, held, 3);
+        return second_order_from_three(c, y, x, w, eta, slices::number(words, held, 4));
+    }
+    list_from_three(c, y, x, w, slices::part(words, held, 4))
+}
+
+fn one(c: Case, words: &[u64], held: &[f64], x: &mut [f64]) -> Answer {
+    let y = slices::part(words, held, 2);
+    let z = slices::part(words, held, 3);
+    let slices = c.slices;
+    match slices {
+        1 => from_none(c, x),
+        2 => from_one(c, x, y),
+        3 => from_two(c, x, y, z),
+        _ => from_three(c, words, held, x, y, z),
+    }
+}
+
+fn writes_one(c: Case, words: &[u64], held: &[f64]) {
+    let mut own = slices::numbers(words);
+    case_answers::answer(one(c, words, held, slices::part_mut(words, &mut own, 1)));
+    slices::told(words, own, 1);
+}
+
+fn second_order_offset(words: &[u64], held: &[f64]) {
+    let mut own1 = slices::numbers(words);
+    let eta = slices::number(words, held, 6);
+    case_answers::answer(soc_offset::soc_ds_from_dz_offset(
+        slices::part_mut(words, &mut own1, 1),
+        slices::part(words, held, 2),
+        slices::part(words, held, 3),
+        slices::part(words, held, 4),
+        slices::part(words, held, 5),
+        &eta,
+    ));
+    slices::told(words, own1, 1);
+}
+
+fn list_offset(c: Case, words: &[u64], held: &[f64]) {
+    let mut own1 = slices::numbers(words);
+    case_answers::answer(list_offset::ds_from_dz_offset_at(
+        c.place,
+        slices::part_mut(words, &mut own1, 1),
+        slices::part(words, held, 2),
+        slices::part(words, held, 3),
+        slices::part(words, held, 4),
+        slices::part(words, held, 5),
+        slices::part(words, held, 6),
+    ));
+    slices::told(words, own1, 1);
+}
+
+// ---- a call that writes several
+
+fn units(c: Case, z: &mut [f64], s: &mut [f64]) -> Answer {
+    let call = c.call;
+    match call {
+        0x102 => soc_units::soc_unit_initialization(z, s),
+        0x202 => nn_units::nn_unit_initialization(z, s),
+        _ => list_units::unit_initialization_at(c.place, z, s),
+    }
+}
+
+fn writes_two(c: Case, words: &[u64]) {
+    let mut own1 = slices::numbers(words);
+    let mut own2 = own1;
+    case_answers::answer(units(
+        c,
+        slices::part_mut(words, &mut own1, 1),
+        slices::part_mut(words, &mut own2, 2),
+    ));
+    slices::told(words, own1, 1);
+    slices::told(words, own2, 2);
+}
+
+fn combined(
+    c: Case,
+    shift: &mut [f64],
+    step_z: &mut [f64],
+    step_s: &mut [f64],
+    w: &[f64],
+    eta: &[f64],
+    number: f64,
+) -> Answer {
+    let call = c.call;
+    match call {
+        0x109 => soc_combined::soc_combined_ds_shift(shift, step_z, step_s, c.a, w, &number),
+        0x209 => nn_combined::nn_combined_ds_shift(shift, step_z, step_s, c.a, w),
+        _ => list_combined::combined_ds_shift_at(c.place, shift, step_z, step_s, c.a, w, eta),
+    }
+}
+
+fn writes_three(c: Case, words: &[u64], held: &[f64]) {
+    let mut own1 = slices::numbers(words);
+    let mut own2 = own1;
+    let mut own3 = own1;
+    case_answers::answer(combined(
+        c,
+        slices::part_mut(words, &mut own1, 1),
+        slices::part_mut(words, &mut own2, 2),
+        slices::part_mut(words, &mut own3, 3),
+        slices::part(words, held, 4),
+        slices::part(words, held, 5),
+        slices::number(words, held, 5),
+    ));
+    slices::told(words, own1, 1);
+    slices::told(words, own2, 2);
+    slices::told(words, own3, 3);
+}
+
+fn second_order_identity(words: &[u64], held: &[f64]) {
+    let mut own1 = slices::numbers(words);
+    let mut own2 = own1;
+    let mut own3 = own1;
+    let mut eta = slices::number(words, held, 4);
+    let mut d = slices::number(words, held, 5);
+    case_answers::answer(soc_identity::soc_set_identity_scaling(
+        slices::part_mut(words, &mut own1, 1),
+        slices::part_mut(words, &mut own2, 2),
+        slices::part_mut(words, &mut own3, 3),
+        &mut eta,
+        &mut d,
+    ));
+    slices::told(words, own1, 1);
+    slices::told(words, own2, 2);
+    slices::told(words, own3, 3);
+    case_answers::single(eta);
+    case_answers::single(d);
+}
+
+fn list_identity(c: Case, words: &[u64]) {
+    let mut own1 = slices::numbers(words);
+    let mut own2 = own1;
+    let mut own3 = own1;
+    let mut own4 = own1;
+    let mut own5 = own1;
+    case_answers::answer(list_identity::set_identity_scaling_at(
+        c.place,
+        slices::part_mut(words, &mut own1, 1),
+        slices::part_mut(words, &mut own2, 2),
+        slices::part_mut(words, &mut own3, 3),
+        slices::part_mut(words, &mut own4, 4),
+        slices::part_mut(words, &mut own5, 5),
+    ));
+    slices::told(words, own1, 1);
+    slices::told(words, own2, 2);
+    slices::told(words, own3, 3);
+    slices::told(words, own4, 4);
+    slices::told(words, own5, 5);
+}
+
+// An update of a scaling reads two slices first.
+fn second_order_scaling(words: &[u64], held: &[f64]) {
+    let mut own3 = slices::numbers(words);
+    let mut own4 = own3;
+    let mut own5 = own3;
+    let mut own6 = own3;
+    let mut eta = slices::number(words, held, 7);
+    let mut d = slices::number(words, held, 8);
+    case_answers::scaling(soc_scaling::soc_update_scaling(
+        slices::part(words, held, 1),
+        slices::part(words, held, 2),
+        slices::part_mut(words, &mut own3, 3),
+        slices::part_mut(words, &mut own4, 4),
+        slices::part_mut(words, &mut own5, 5),
+        slices::part_mut(words, &mut own6, 6),
+        &mut eta,
+        &mut d,
+    ));
+    slices::tell(words, held, 1);
+    slices::tell(words, held, 2);
+    slices::told(words, own3, 3);
+    slices::told(words, own4, 4);
+    slices::told(words, own5, 5);
+    slices::told(words, own6, 6);
+    case_answers::single(eta);
+    case_answers::single(d);
+}
+
+fn nonnegative_scaling(words: &[u64], held: &[f64]) {
+    let mut own3 = slices::numbers(words);
+    let mut own4 = own3;
+    case_answers::scaling(nn_scaling::nn_update_scaling(
+        slices::part(words, held, 1),
+        slices::part(words, held, 2),
+        slices::part_mut(words, &mut own3, 3),
+        slices::part_mut(words, &mut own4, 4),
+    ));
+    slices::tell(words, held, 1);
+    slices::tell(words, held, 2);
+    slices::told(words, own3, 3);
+    slices::told(words, own4, 4);
+}
+
+fn list_scaling(c: Case, words: &[u64], held: &[f64]) {
+    let mut own3 = slices::numbers(words);
+    let mut own4 = own3;
+    let mut own5 = own3;
+    let mut own6 = own3;
+    let mut own7 = own3;
+    let mut own8 = own3;
+    case_answers::scaling(list_scaling::update_scaling_at(
+        c.place,
+        slices::part(words, held, 1),
+        slices::part(words, held, 2),
+        slices::part_mut(words, &mut own3, 3),
+        slices::part_mut(words, &mut own4, 4),
+        slices::part_mut(words, &mut own5, 5),
+        slices::part_mut(words, &mut own6, 6),
+        slices::part_mut(words, &mut own7, 7),
+        slices::part_mut(words, &mut own8, 8),
+    ));
+    slices::tell(words, held, 1);
+    slices::tell(words, held, 2);
+    slices::told(words, own3, 3);
+    slices::told(words, own4, 4);
+    slices::told(words, own5, 5);
+    slices::told(words, own6, 6);
+    slices::told(words, own7, 7);
+    slices::told(words, own8, 8);
+}
+
+// ---- all of them
+
+fn offsets(c: Case, words: &[u64], held: &[f64]) {
+    if c.call == 0x10a {
+        second_order_offset(words, held);
+    } else {
+        list_offset(c, words, held);
+    }
+}
+
+fn writes_most(c: Case, words: &[u64], held: &[f64]) {
+    let call = c.call;
+    match call {
+        0x103 => second_order_identity(words, held),
+        0x303 => list_identity(c, words),
+        0x104 => second_order_scaling(words, held),
+        _ => list_scaling(c, words, held),
+    }
+}
+
+fn writes_none(c: Case, row: &[[usize; 3]], words: &[u64], held: &[f64]) {
+    let slices = c.slices;
+    match slices {
+        0 => case_answers::value(number(c)),
+        4 => reads_four(c, row, words, held),
+        _ => reads(c, words, held),
+    }
+}
+
+fn run(c: Case, row: &[[usize; 3]], words: &[u64], held: &[f64]) {
+    let written = c.written;
+    match written {
+        0 => writes_none(c, row, words, held),
+        1 => if c.slices == 6 {
+            offsets(c, words, held)
+        } else {
+            writes_one(c, words, held)
+        },
+        2 => if c.slices == 2 {
+            writes_two(c, words)
+        } else {
+            nonnegative_scaling(words, held)
+        },
+        3 => writes_three(c, words, held),
+        _ => writes_most(c, words, held),
+    }
+}
+
+// A case run, and told in one line: the slices that the call only reads are told as they were read.
+pub fn made(c: Case, row: &[[usize; 3]], words: &[u64]) {
+    let held = slices::numbers(words);
+    run(c, row, words, &held);
+    // an update of a scaling has told all its slices, any other call those that it writes, which come first
+    let told = if c.call % 256 == 4 {
+        c.slices
+    } else {
+        c.written
+    };
+    slices::tell_behind(words, &held, told, c.slices);
+    show::newline();
+}
