@@ -3,11 +3,6 @@
 // What a call reads is lent of the numbers of all the words; each slice that it writes, of a copy of its own.
 use crate::slices;
 use answers::Answer;
-use answers::Margins;
-use answers::Number;
-use answers::Square;
-use answers::Stands;
-use answers::Step;
 use answers::Steps;
 use conelist::Place;
 
@@ -33,46 +28,29 @@ fn number(c: Case) -> f64 {
     }
 }
 
-fn margins(c: Case, z: &[f64]) -> Margins {
+fn reads_one(c: Case, z: &[f64]) {
     let call = c.call;
     match call {
-        0x100 => soc_units::soc_margins(z),
-        0x200 => nn_units::nn_margins(z),
-        _ => list_margins::margins_at(c.place, z),
+        0x100 => case_answers::margins(soc_units::soc_margins(z)),
+        0x200 => case_answers::margins(nn_units::nn_margins(z)),
+        0x300 => case_answers::margins(list_margins::margins_at(c.place, z)),
+        0x111 => case_answers::stands(standing::soc_standing(z)),
+        0x211 => case_answers::stands(standing::nn_standing(z)),
+        0x311 => case_answers::stands(list_standing::standing_at(c.place, z)),
+        0x113 => case_answers::residual(soc_residual::soc_residual(z)),
+        _ => case_answers::residual(soc_residual::sqrt_soc_residual(z)),
     }
 }
 
-fn stands(c: Case, z: &[f64]) -> Stands {
+// The second slice is a direction, or eta; the second-order cone is lent eta as a number.
+fn reads_two(c: Case, x: &[f64], y: &[f64], eta: f64) {
     let call = c.call;
     match call {
-        0x111 => standing::soc_standing(z),
-        0x211 => standing::nn_standing(z),
-        _ => list_standing::standing_at(c.place, z),
-    }
-}
-
-fn residual(c: Case, z: &[f64], dz: &[f64]) -> Number {
-    let call = c.call;
-    match call {
-        0x113 => soc_residual::soc_residual(z),
-        0x114 => soc_residual::soc_residual_shifted(z, dz, c.a),
-        _ => soc_residual::sqrt_soc_residual(z),
-    }
-}
-
-fn step(c: Case, z: &[f64], dz: &[f64]) -> Step {
-    let call = c.call;
-    match call {
-        0x112 => soc_step::soc_step(z, dz, c.a),
-        _ => nn_step::nn_step(z, dz, c.a),
-    }
-}
-
-fn square(c: Case, w: &[f64], eta: &[f64], number: f64) -> Square {
-    let call = c.call;
-    match call {
-        0x106 => soc_square::soc_square_hs(w, &number),
-        _ => list_square::square_hs_at(c.place, w, eta),
+        0x106 => case_answers::square(soc_square::soc_square_hs(x, &eta)),
+        0x306 => case_answers::square(list_square::square_hs_at(c.place, x, y)),
+        0x112 => case_answers::step(soc_step::soc_step(x, y, c.a)),
+        0x212 => case_answers::step(nn_step::nn_step(x, y, c.a)),
+        _ => case_answers::residual(soc_residual::soc_residual_shifted(x, y, c.a)),
     }
 }
 
@@ -83,18 +61,6 @@ fn steps(c: Case, row: &[[usize; 3]], dz: &[f64], ds: &[f64], z: &[f64], s: &[f6
         0x20b => nn_step::nn_step_length(dz, ds, z, s, c.a),
         0x312 => records_step::list_step_length(row, dz, ds, z, s, c.a),
         _ => list_step::step_length_at(c.place, dz, ds, z, s, c.a),
-    }
-}
-
-fn reads(c: Case, words: &[u64], held: &[f64]) {
-    let x = slices::part(words, held, 1);
-    let y = slices::part(words, held, 2);
-    match c.call % 256 {
-        0x00 => case_answers::margins(margins(c, x)),
-        0x06 => case_answers::square(square(c, x, y, slices::number(words, held, 2))),
-        0x11 => case_answers::stands(stands(c, x)),
-        0x12 => case_answers::step(step(c, x, y)),
-        _ => case_answers::residual(residual(c, x, y)),
     }
 }
 
@@ -109,9 +75,7 @@ fn reads_four(c: Case, row: &[[usize; 3]], words: &[u64], held: &[f64]) {
     ));
 }
 
-// ---- a call that writes one slice
-
-// and reads none
+// ---- a call that writes one slice: first by how many it reads
 
 fn from_none(c: Case, z: &mut [f64]) -> Answer {
     let call = c.call;
@@ -123,8 +87,6 @@ fn from_none(c: Case, z: &mut [f64]) -> Answer {
     }
 }
 
-// and reads one
-
 fn from_one(c: Case, x: &mut [f64], y: &[f64]) -> Answer {
     let call = c.call;
     match call {
@@ -134,8 +96,6 @@ fn from_one(c: Case, x: &mut [f64], y: &[f64]) -> Answer {
         _ => list_affine_ds::affine_ds_at(c.place, x, y),
     }
 }
-
-// and reads two
 
 fn nonnegative_from_two(c: Case, x: &mut [f64], y: &[f64], z: &[f64]) -> Answer {
     let call = c.call;
@@ -163,8 +123,7 @@ fn from_two(c: Case, x: &mut [f64], y: &[f64], z: &[f64]) -> Answer {
     }
 }
 
-// and reads three, the second-order cone's with numbers lent
-
+// The second-order cone is lent numbers: eta, or eta and d.
 fn second_order_from_three(
     c: Case,
     y: &mut [f64],
@@ -416,7 +375,7 @@ fn list_scaling(c: Case, words: &[u64], held: &[f64]) {
     slices::told(words, own8, 8);
 }
 
-// ---- all of them
+// ---- each by what it writes
 
 fn offsets(c: Case, words: &[u64], held: &[f64]) {
     if c.call == 0x10a {
@@ -437,11 +396,14 @@ fn writes_most(c: Case, words: &[u64], held: &[f64]) {
 }
 
 fn writes_none(c: Case, row: &[[usize; 3]], words: &[u64], held: &[f64]) {
+    let x = slices::part(words, held, 1);
+    let y = slices::part(words, held, 2);
     let slices = c.slices;
     match slices {
         0 => case_answers::value(number(c)),
-        4 => reads_four(c, row, words, held),
-        _ => reads(c, words, held),
+        1 => reads_one(c, x),
+        2 => reads_two(c, x, y, slices::number(words, held, 2)),
+        _ => reads_four(c, row, words, held),
     }
 }
 
