@@ -74,6 +74,7 @@ macro_rules! lists {
 
 pub fn all(bare: &[Call]) -> Vec<Listed<'_>> {
     let mut all = lists![bare:
+        // calls: written by tools/surface
         akm_list_margins [v 0 o 0 o 1];
         akm_list_scaled_unit_shift [v 0 a 0];
         akm_list_unit_initialization [v 0 v 1];
@@ -91,6 +92,7 @@ pub fn all(bare: &[Call]) -> Vec<Listed<'_>> {
         akm_list_inv_circ_op [v 0 v 1 v 2];
         akm_list_lambda_inv_circ_op [v 0 v 1 v 2];
         akm_list_standing [v 0 t];
+        // end
     ];
     all.push(Listed::new(bare, "akm_list_square_hs", |row, l| {
         extern "C" {

@@ -58,106 +58,151 @@ double akm_greatest(double a, double b);
    a NaN or an infinity is a NaN.) */
 void akm_fresh_state(double *w, size_t w_len, double *lambda, size_t lambda_len, double *u, size_t u_len, double *v, size_t v_len, double *eta, size_t eta_len, double *d, size_t d_len);
 
-/* ---- second-order: residuals, margins, unit */
+/* ---- second-order. A cone stores w, lambda, u, v, eta, d; one of up to 4 entries, which is dense, keeps u, v
+   and d as they are. The block of such a cone can be had as a matrix: */
 
-/* value = (z0 - |z1|) * (z0 + |z1|), z1 the entries from 1 on */
-uint8_t akm_soc_residual(const double *z, size_t z_len, double *value);
-/* the same at z + alpha*dz */
-uint8_t akm_soc_residual_shifted(const double *z, size_t z_len, const double *dz, size_t dz_len, double alpha, double *value);
-/* the residual's root where it is above 0, else 0 */
-uint8_t akm_sqrt_soc_residual(const double *z, size_t z_len, double *value);
+struct akm_square {
+    uint8_t no; /* the refusal's number */
+    double rows[4][4];
+};
+
+/* soc: written by tools/surface */
+
+/* ---- second-order: margins and unit */
+
 /* alpha = z0 - |z1|, beta = the greatest of 0 and alpha */
 uint8_t akm_soc_margins(const double *z, size_t z_len, double *alpha, double *beta);
 /* z += alpha*(1, 0, ..) */
 uint8_t akm_soc_scaled_unit_shift(double *z, size_t z_len, double alpha);
 /* z = s = (1, 0, ..) */
 uint8_t akm_soc_unit_initialization(double *z, size_t z_len, double *s, size_t s_len);
-/* standing = one of enum akm_standing */
-uint8_t akm_soc_standing(const double *z, size_t z_len, uint8_t *standing);
 
-/* ---- second-order: scaling. A cone stores w, lambda, u, v, eta, d; one of up to 4 entries, which is
-   dense, keeps u, v and d as they are. */
+/* ---- second-order: scaling */
 
+/* w = (1, 0, ..), eta = 1; above 4 entries also d = 1/2 and u = v = (1/sqrt 2, 0, ..). lambda stays */
 uint8_t akm_soc_set_identity_scaling(double *w, size_t w_len, double *u, size_t u_len, double *v, size_t v_len, double *eta, double *d);
-/* truth = 1, or 0 where s, z or w has no root scale: then w and eta may have been written, and no more.
-   A mirrored point has one, a fault that is kept: s = z = (-2, 0) has truth 1 and puts a NaN into lambda.
-   akm_soc_standing tells such a point. */
+/* true, or false where s, z or w has no root scale: then w and eta may have been written, and no more. A
+   mirrored point has one, a fault that is kept: s = z = (-2, 0) gives true and puts a NaN into lambda.
+   The standing tells such a point */
 uint8_t akm_soc_update_scaling(const double *s, size_t s_len, const double *z, size_t z_len, double *w, size_t w_len, double *lambda, size_t lambda_len, double *u, size_t u_len, double *v, size_t v_len, double *eta, double *d, uint8_t *truth);
 
 /* ---- second-order: the block Hs */
 
 /* hs has n numbers for n above 4, else n(n+1)/2: the upper triangle by columns */
 uint8_t akm_soc_get_hs(double *hs, size_t hs_len, const double *w, size_t w_len, const double *eta, const double *d);
-
-/* the block of a cone of up to 4 entries as a matrix, +0 beyond the dimension and where it is refused: the
-   answer is the whole struct, which is written in either case */
-struct akm_square {
-    uint8_t no; /* the refusal's number */
-    double rows[4][4];
-};
+/* the block of a cone of up to 4 entries as a matrix, +0 beyond the dimension and where it is refused:
+   the answer is the whole struct, which is written in either case */
 void akm_soc_square_hs(struct akm_square *square, const double *w, size_t w_len, const double *eta);
-
-/* ---- second-order: products */
-
-/* y = alpha*W*x + beta*y, and with W's inverse */
-uint8_t akm_soc_mul_w(double *y, size_t y_len, const double *x, size_t x_len, double alpha, double beta, const double *w, size_t w_len, const double *eta);
-uint8_t akm_soc_mul_winv(double *y, size_t y_len, const double *x, size_t x_len, double alpha, double beta, const double *w, size_t w_len, const double *eta);
 /* y = Hs*x */
 uint8_t akm_soc_mul_hs(double *y, size_t y_len, const double *x, size_t x_len, const double *w, size_t w_len, const double *eta);
-/* x = the Jordan product of y and z; its inverse, the x whose product with y is z; that by lambda */
-uint8_t akm_soc_circ_op(double *x, size_t x_len, const double *y, size_t y_len, const double *z, size_t z_len);
-uint8_t akm_soc_inv_circ_op(double *x, size_t x_len, const double *y, size_t y_len, const double *z, size_t z_len);
-uint8_t akm_soc_lambda_inv_circ_op(double *x, size_t x_len, const double *z, size_t z_len, const double *lambda, size_t lambda_len);
-/* ds = lambda's product with itself */
+
+/* ---- second-order: directions */
+
+/* ds = lambda's Jordan product with itself */
 uint8_t akm_soc_affine_ds(double *ds, size_t ds_len, const double *lambda, size_t lambda_len);
+/* shift = Ds*Dz - sigma_mu*(1, 0, ..), with Dz = W*step_z and Ds = W's inverse times step_s, which are
+   left in step_z and step_s */
+uint8_t akm_soc_combined_ds_shift(double *shift, size_t shift_len, double *step_z, size_t step_z_len, double *step_s, size_t step_s_len, double sigma_mu, const double *w, size_t w_len, const double *eta);
 /* out = the constant part of Ds as a function of Dz */
 uint8_t akm_soc_ds_from_dz_offset(double *out, size_t out_len, const double *ds, size_t ds_len, const double *z, size_t z_len, const double *w, size_t w_len, const double *lambda, size_t lambda_len, const double *eta);
 
-/* shift = Ds*Dz - sigma_mu*(1, 0, ..), with Dz = W*step_z and Ds = W's inverse times step_s, which are left in step_z and step_s */
-uint8_t akm_soc_combined_ds_shift(double *shift, size_t shift_len, double *step_z, size_t step_z_len, double *step_s, size_t step_s_len, double sigma_mu, const double *w, size_t w_len, const double *eta);
-
 /* ---- second-order: steps */
 
-/* step = how far x may go along y, at most limit; it lies in [0, limit]. A fault that is kept: along a y of
-   residual 0 it is the limit, lowered where the first entry would pass 0, also where that leads outside:
-   (1, 0) along (-1, 1) with limit 1 gives 1, though a half is the last point inside. */
-uint8_t akm_soc_step(const double *x, size_t x_len, const double *y, size_t y_len, double limit, double *step);
 /* step_z = z along dz, step_s = s along ds */
 uint8_t akm_soc_step_length(const double *dz, size_t dz_len, const double *ds, size_t ds_len, const double *z, size_t z_len, const double *s, size_t s_len, double limit, double *step_z, double *step_s);
+/* how far x may go along y, at most limit; it lies in [0, limit]. A fault that is kept: along a y of
+   residual 0 it is the limit, lowered where the first entry would pass 0, also where that leads outside:
+   (1, 0) along (-1, 1) with limit 1 gives 1, though a half is the last point inside */
+uint8_t akm_soc_step(const double *x, size_t x_len, const double *y, size_t y_len, double limit, double *step);
+
+/* ---- second-order: products */
+
+/* y = alpha*W*x + beta*y */
+uint8_t akm_soc_mul_w(double *y, size_t y_len, const double *x, size_t x_len, double alpha, double beta, const double *w, size_t w_len, const double *eta);
+/* y = alpha*x/W + beta*y, with W's inverse */
+uint8_t akm_soc_mul_winv(double *y, size_t y_len, const double *x, size_t x_len, double alpha, double beta, const double *w, size_t w_len, const double *eta);
+/* x = the Jordan product of y and z */
+uint8_t akm_soc_circ_op(double *x, size_t x_len, const double *y, size_t y_len, const double *z, size_t z_len);
+/* the x whose Jordan product with y is z */
+uint8_t akm_soc_inv_circ_op(double *x, size_t x_len, const double *y, size_t y_len, const double *z, size_t z_len);
+/* the x whose Jordan product with lambda is z */
+uint8_t akm_soc_lambda_inv_circ_op(double *x, size_t x_len, const double *z, size_t z_len, const double *lambda, size_t lambda_len);
+
+/* ---- second-order: standing and residuals */
+
+/* where z stands: one of the five standings */
+uint8_t akm_soc_standing(const double *z, size_t z_len, uint8_t *standing);
+/* value = (z0 - |z1|) * (z0 + |z1|), z1 the entries from 1 on */
+uint8_t akm_soc_residual(const double *z, size_t z_len, double *value);
+/* the residual of z + alpha*dz */
+uint8_t akm_soc_residual_shifted(const double *z, size_t z_len, const double *dz, size_t dz_len, double alpha, double *value);
+/* the residual's root where it is above 0, else 0 */
+uint8_t akm_sqrt_soc_residual(const double *z, size_t z_len, double *value);
+/* end */
 
 /* ---- nonnegative: the same, entry by entry. A cone stores w and lambda. */
 
+/* nn: written by tools/surface */
+
+/* ---- nonnegative: margins and unit */
+
 /* alpha = the least entry, from infinity; beta = the sum of the entries above 0 */
 uint8_t akm_nn_margins(const double *z, size_t z_len, double *alpha, double *beta);
-/* z += alpha */
+/* z += alpha*(1, 1, ..) */
 uint8_t akm_nn_scaled_unit_shift(double *z, size_t z_len, double alpha);
 /* z = s = (1, 1, ..) */
 uint8_t akm_nn_unit_initialization(double *z, size_t z_len, double *s, size_t s_len);
-uint8_t akm_nn_standing(const double *z, size_t z_len, uint8_t *standing);
+
+/* ---- nonnegative: scaling */
+
 /* w = (1, 1, ..) */
 uint8_t akm_nn_set_identity_scaling(double *w, size_t w_len);
-/* lambda = sqrt(s*z), w = sqrt(s/z); truth = 1 */
+/* lambda = sqrt(s*z), w = sqrt(s/z); always true */
 uint8_t akm_nn_update_scaling(const double *s, size_t s_len, const double *z, size_t z_len, double *w, size_t w_len, double *lambda, size_t lambda_len, uint8_t *truth);
+
+/* ---- nonnegative: the block Hs */
+
 /* hs = w*w */
 uint8_t akm_nn_get_hs(double *hs, size_t hs_len, const double *w, size_t w_len);
 /* y = w*(w*x) */
 uint8_t akm_nn_mul_hs(double *y, size_t y_len, const double *x, size_t x_len, const double *w, size_t w_len);
+
+/* ---- nonnegative: directions */
+
 /* ds = lambda*lambda */
 uint8_t akm_nn_affine_ds(double *ds, size_t ds_len, const double *lambda, size_t lambda_len);
+/* shift = Ds*Dz - sigma_mu*(1, 1, ..), with Dz = w*step_z and Ds = step_s/w, which are left in step_z
+   and step_s */
+uint8_t akm_nn_combined_ds_shift(double *shift, size_t shift_len, double *step_z, size_t step_z_len, double *step_s, size_t step_s_len, double sigma_mu, const double *w, size_t w_len);
 /* out = ds/z */
 uint8_t akm_nn_ds_from_dz_offset(double *out, size_t out_len, const double *ds, size_t ds_len, const double *z, size_t z_len);
-/* y = alpha*(x*w) + beta*y, and alpha*(x/w) + beta*y */
-uint8_t akm_nn_mul_w(double *y, size_t y_len, const double *x, size_t x_len, double alpha, double beta, const double *w, size_t w_len);
-uint8_t akm_nn_mul_winv(double *y, size_t y_len, const double *x, size_t x_len, double alpha, double beta, const double *w, size_t w_len);
-/* x = y*z; x = z/y; x = z/lambda */
-uint8_t akm_nn_circ_op(double *x, size_t x_len, const double *y, size_t y_len, const double *z, size_t z_len);
-uint8_t akm_nn_inv_circ_op(double *x, size_t x_len, const double *y, size_t y_len, const double *z, size_t z_len);
-uint8_t akm_nn_lambda_inv_circ_op(double *x, size_t x_len, const double *z, size_t z_len, const double *lambda, size_t lambda_len);
-uint8_t akm_nn_combined_ds_shift(double *shift, size_t shift_len, double *step_z, size_t step_z_len, double *step_s, size_t step_s_len, double sigma_mu, const double *w, size_t w_len);
-/* step = the least of limit and each -x/y with y below 0. It can be negative, where an entry of x is: (-1)
-   along (-1) with limit 1 gives -1. So can a list's step, below. */
-uint8_t akm_nn_step(const double *x, size_t x_len, const double *y, size_t y_len, double limit, double *step);
+
+/* ---- nonnegative: steps */
+
+/* step_z = z along dz, step_s = s along ds */
 uint8_t akm_nn_step_length(const double *dz, size_t dz_len, const double *ds, size_t ds_len, const double *z, size_t z_len, const double *s, size_t s_len, double limit, double *step_z, double *step_s);
+/* the least of limit and each -x/y with y below 0. It can be negative, where an entry of x is: (-1)
+   along (-1) with limit 1 gives -1. So can a list's step */
+uint8_t akm_nn_step(const double *x, size_t x_len, const double *y, size_t y_len, double limit, double *step);
+
+/* ---- nonnegative: products */
+
+/* y = alpha*(x*w) + beta*y */
+uint8_t akm_nn_mul_w(double *y, size_t y_len, const double *x, size_t x_len, double alpha, double beta, const double *w, size_t w_len);
+/* y = alpha*(x/w) + beta*y */
+uint8_t akm_nn_mul_winv(double *y, size_t y_len, const double *x, size_t x_len, double alpha, double beta, const double *w, size_t w_len);
+/* x = y*z */
+uint8_t akm_nn_circ_op(double *x, size_t x_len, const double *y, size_t y_len, const double *z, size_t z_len);
+/* x = z/y */
+uint8_t akm_nn_inv_circ_op(double *x, size_t x_len, const double *y, size_t y_len, const double *z, size_t z_len);
+/* x = z/lambda */
+uint8_t akm_nn_lambda_inv_circ_op(double *x, size_t x_len, const double *z, size_t z_len, const double *lambda, size_t lambda_len);
+
+/* ---- nonnegative: standing and residuals */
+
+/* where z stands: one of the five standings but the mirrored one */
+uint8_t akm_nn_standing(const double *z, size_t z_len, uint8_t *standing);
+/* end */
 
 /* ---- a list of cones
 
@@ -178,6 +223,7 @@ struct akm_cone {
     size_t dimension;
 };
 
+/* list: written by tools/surface */
 uint8_t akm_list_margins(const struct akm_cone *list, size_t list_len, size_t k, const double *z, size_t z_len, double *alpha, double *beta);
 uint8_t akm_list_scaled_unit_shift(const struct akm_cone *list, size_t list_len, size_t k, double *z, size_t z_len, double alpha);
 uint8_t akm_list_unit_initialization(const struct akm_cone *list, size_t list_len, size_t k, double *z, size_t z_len, double *s, size_t s_len);
@@ -196,10 +242,10 @@ uint8_t akm_list_circ_op(const struct akm_cone *list, size_t list_len, size_t k,
 uint8_t akm_list_inv_circ_op(const struct akm_cone *list, size_t list_len, size_t k, double *x, size_t x_len, const double *y, size_t y_len, const double *z, size_t z_len);
 uint8_t akm_list_lambda_inv_circ_op(const struct akm_cone *list, size_t list_len, size_t k, double *x, size_t x_len, const double *z, size_t z_len, const double *lambda, size_t lambda_len);
 uint8_t akm_list_standing(const struct akm_cone *list, size_t list_len, size_t k, const double *z, size_t z_len, uint8_t *standing);
-
-/* the whole list's step: each cone's at the caller's limit, and of each side the least; the limit twice for
-   a list of no cones */
+/* the whole list's step: each cone's at the caller's limit, and of each side the least; the limit twice
+   for no cones */
 uint8_t akm_whole_step_length(const struct akm_cone *list, size_t list_len, const double *dz, size_t dz_len, const double *ds, size_t ds_len, const double *z, size_t z_len, const double *s, size_t s_len, double limit, double *step_z, double *step_s);
+/* end */
 
 #ifdef __cplusplus
 }

@@ -173,65 +173,74 @@ pub mod numbers {
 /// The second-order cone by itself. A cone of up to 4 entries is dense and keeps u, v and d as they are.
 pub mod soc {
     calls! {
-        /// (z0 - |z1|) * (z0 + |z1|), z1 the entries from 1 on.
-        residual: akm_soc_residual(reads z) -> number;
-        /// The residual of z + alpha*dz.
-        residual_shifted: akm_soc_residual_shifted(reads z, reads dz, number alpha) -> number;
-        /// The residual's root where it is above 0, else 0.
-        sqrt_residual: akm_sqrt_soc_residual(reads z) -> number;
-        /// z0 - |z1|, and the greatest of 0 and that.
+        // soc: written by tools/surface
+        /// alpha = z0 - |z1|, beta = the greatest of 0 and alpha
         margins: akm_soc_margins(reads z) -> pair;
         /// z += alpha*(1, 0, ..)
         scaled_unit_shift: akm_soc_scaled_unit_shift(writes z, number alpha) -> done;
         /// z = s = (1, 0, ..)
         unit_initialization: akm_soc_unit_initialization(writes z, writes s) -> done;
-        standing: akm_soc_standing(reads z) -> standing;
+        /// w = (1, 0, ..), eta = 1; above 4 entries also d = 1/2 and u = v = (1/sqrt 2, 0, ..). lambda stays
         set_identity_scaling: akm_soc_set_identity_scaling(writes w, writes u, writes v, stores eta, stores d) -> done;
-        /// False where s, z or w has no root scale: then w and eta may have been written, and no more. A fault that is kept:
-        /// a mirrored point has one, so s = z = (-2, 0) gives true, with a NaN in lambda.
+        /// true, or false where s, z or w has no root scale: then w and eta may have been written, and no more. A
+        /// mirrored point has one, a fault that is kept: s = z = (-2, 0) gives true and puts a NaN into lambda. The
+        /// standing tells such a point
         update_scaling: akm_soc_update_scaling(reads s, reads z, writes w, writes lambda, writes u, writes v, stores eta, stores d) -> truth;
-        /// The block: n numbers for n above 4, else n(n+1)/2, the upper triangle by columns.
+        /// hs has n numbers for n above 4, else n(n+1)/2: the upper triangle by columns
         get_hs: akm_soc_get_hs(writes hs, reads w, lent eta, lent d) -> done;
+        /// the block of a cone of up to 4 entries as a matrix, +0 beyond the dimension and where it is refused: the
+        /// answer is the whole struct, which is written in either case
         square_hs: akm_soc_square_hs(reads w, lent eta) -> square;
-        /// y = alpha*W*x + beta*y
-        mul_w: akm_soc_mul_w(writes y, reads x, number alpha, number beta, reads w, lent eta) -> done;
-        /// y = alpha*W⁻¹*x + beta*y
-        mul_winv: akm_soc_mul_winv(writes y, reads x, number alpha, number beta, reads w, lent eta) -> done;
         /// y = Hs*x
         mul_hs: akm_soc_mul_hs(writes y, reads x, reads w, lent eta) -> done;
-        /// x = y ∘ z
-        circ_op: akm_soc_circ_op(writes x, reads y, reads z) -> done;
-        /// The x whose product with y is z.
-        inv_circ_op: akm_soc_inv_circ_op(writes x, reads y, reads z) -> done;
-        /// The x whose product with lambda is z.
-        lambda_inv_circ_op: akm_soc_lambda_inv_circ_op(writes x, reads z, reads lambda) -> done;
-        /// ds = lambda ∘ lambda
+        /// ds = lambda's Jordan product with itself
         affine_ds: akm_soc_affine_ds(writes ds, reads lambda) -> done;
-        /// The constant part of Δs as a function of Δz.
-        ds_from_dz_offset: akm_soc_ds_from_dz_offset(writes out, reads ds, reads z, reads w, reads lambda, lent eta) -> done;
-        /// shift = Δs ∘ Δz - sigma_mu*(1, 0, ..), with Δz = W*step_z and Δs = W⁻¹*step_s, which are left in step_z and step_s.
+        /// shift = Ds*Dz - sigma_mu*(1, 0, ..), with Dz = W*step_z and Ds = W's inverse times step_s, which are left
+        /// in step_z and step_s
         combined_ds_shift: akm_soc_combined_ds_shift(writes shift, writes step_z, writes step_s, number sigma_mu, reads w, lent eta) -> done;
-        /// How far x may go along y, at most the limit. A fault that is kept: along a y of residual 0 it is the limit, so (1, 0)
-        /// along (-1, 1) with limit 1 gives 1, though a half is the last point inside.
-        step: akm_soc_step(reads x, reads y, number limit) -> number;
-        /// z along dz, and s along ds.
+        /// out = the constant part of Ds as a function of Dz
+        ds_from_dz_offset: akm_soc_ds_from_dz_offset(writes out, reads ds, reads z, reads w, reads lambda, lent eta) -> done;
+        /// step_z = z along dz, step_s = s along ds
         step_length: akm_soc_step_length(reads dz, reads ds, reads z, reads s, number limit) -> pair;
+        /// how far x may go along y, at most limit; it lies in [0, limit]. A fault that is kept: along a y of
+        /// residual 0 it is the limit, lowered where the first entry would pass 0, also where that leads outside: (1,
+        /// 0) along (-1, 1) with limit 1 gives 1, though a half is the last point inside
+        step: akm_soc_step(reads x, reads y, number limit) -> number;
+        /// y = alpha*W*x + beta*y
+        mul_w: akm_soc_mul_w(writes y, reads x, number alpha, number beta, reads w, lent eta) -> done;
+        /// y = alpha*x/W + beta*y, with W's inverse
+        mul_winv: akm_soc_mul_winv(writes y, reads x, number alpha, number beta, reads w, lent eta) -> done;
+        /// x = the Jordan product of y and z
+        circ_op: akm_soc_circ_op(writes x, reads y, reads z) -> done;
+        /// the x whose Jordan product with y is z
+        inv_circ_op: akm_soc_inv_circ_op(writes x, reads y, reads z) -> done;
+        /// the x whose Jordan product with lambda is z
+        lambda_inv_circ_op: akm_soc_lambda_inv_circ_op(writes x, reads z, reads lambda) -> done;
+        /// where z stands: one of the five standings
+        standing: akm_soc_standing(reads z) -> standing;
+        /// value = (z0 - |z1|) * (z0 + |z1|), z1 the entries from 1 on
+        residual: akm_soc_residual(reads z) -> number;
+        /// the residual of z + alpha*dz
+        residual_shifted: akm_soc_residual_shifted(reads z, reads dz, number alpha) -> number;
+        /// the residual's root where it is above 0, else 0
+        sqrt_residual: akm_sqrt_soc_residual(reads z) -> number;
+        // end
     }
 }
 
 /// The nonnegative cone by itself: the same calls, entry by entry.
 pub mod nn {
     calls! {
-        /// The least entry, from infinity; the sum of the entries above 0.
+        // nn: written by tools/surface
+        /// alpha = the least entry, from infinity; beta = the sum of the entries above 0
         margins: akm_nn_margins(reads z) -> pair;
-        /// z += alpha
+        /// z += alpha*(1, 1, ..)
         scaled_unit_shift: akm_nn_scaled_unit_shift(writes z, number alpha) -> done;
         /// z = s = (1, 1, ..)
         unit_initialization: akm_nn_unit_initialization(writes z, writes s) -> done;
-        standing: akm_nn_standing(reads z) -> standing;
         /// w = (1, 1, ..)
         set_identity_scaling: akm_nn_set_identity_scaling(writes w) -> done;
-        /// lambda = √(s*z), w = √(s/z); always true.
+        /// lambda = sqrt(s*z), w = sqrt(s/z); always true
         update_scaling: akm_nn_update_scaling(reads s, reads z, writes w, writes lambda) -> truth;
         /// hs = w*w
         get_hs: akm_nn_get_hs(writes hs, reads w) -> done;
@@ -239,8 +248,16 @@ pub mod nn {
         mul_hs: akm_nn_mul_hs(writes y, reads x, reads w) -> done;
         /// ds = lambda*lambda
         affine_ds: akm_nn_affine_ds(writes ds, reads lambda) -> done;
+        /// shift = Ds*Dz - sigma_mu*(1, 1, ..), with Dz = w*step_z and Ds = step_s/w, which are left in step_z and
+        /// step_s
+        combined_ds_shift: akm_nn_combined_ds_shift(writes shift, writes step_z, writes step_s, number sigma_mu, reads w) -> done;
         /// out = ds/z
         ds_from_dz_offset: akm_nn_ds_from_dz_offset(writes out, reads ds, reads z) -> done;
+        /// step_z = z along dz, step_s = s along ds
+        step_length: akm_nn_step_length(reads dz, reads ds, reads z, reads s, number limit) -> pair;
+        /// the least of limit and each -x/y with y below 0. It can be negative, where an entry of x is: (-1) along
+        /// (-1) with limit 1 gives -1. So can a list's step
+        step: akm_nn_step(reads x, reads y, number limit) -> number;
         /// y = alpha*(x*w) + beta*y
         mul_w: akm_nn_mul_w(writes y, reads x, number alpha, number beta, reads w) -> done;
         /// y = alpha*(x/w) + beta*y
@@ -251,12 +268,9 @@ pub mod nn {
         inv_circ_op: akm_nn_inv_circ_op(writes x, reads y, reads z) -> done;
         /// x = z/lambda
         lambda_inv_circ_op: akm_nn_lambda_inv_circ_op(writes x, reads z, reads lambda) -> done;
-        /// As for the second-order cone, with 1 in every entry of the unit.
-        combined_ds_shift: akm_nn_combined_ds_shift(writes shift, writes step_z, writes step_s, number sigma_mu, reads w) -> done;
-        /// How far x may go along y, at most the limit; negative where an entry of x is below 0 and y leads further down.
-        step: akm_nn_step(reads x, reads y, number limit) -> number;
-        /// z along dz, and s along ds.
-        step_length: akm_nn_step_length(reads dz, reads ds, reads z, reads s, number limit) -> pair;
+        /// where z stands: one of the five standings but the mirrored one
+        standing: akm_nn_standing(reads z) -> standing;
+        // end
     }
 }
 
@@ -264,11 +278,11 @@ pub mod nn {
 /// cone, `hs` holds each cone's block behind the other; nothing outside the cone's own ranges is read or written.
 pub mod list {
     calls! {
+        // list: written by tools/surface
         margins: akm_list_margins(row list, index k, reads z) -> pair;
         scaled_unit_shift: akm_list_scaled_unit_shift(row list, index k, writes z, number alpha) -> done;
         unit_initialization: akm_list_unit_initialization(row list, index k, writes z, writes s) -> done;
         set_identity_scaling: akm_list_set_identity_scaling(row list, index k, writes w, writes u, writes v, writes eta, writes d) -> done;
-        /// False as for the second-order cone by itself; true for a nonnegative one.
         update_scaling: akm_list_update_scaling(row list, index k, reads s, reads z, writes w, writes lambda, writes u, writes v, writes eta, writes d) -> truth;
         get_hs: akm_list_get_hs(row list, index k, writes hs, reads w, reads eta, reads d) -> done;
         square_hs: akm_list_square_hs(row list, index k, reads w, reads eta) -> square;
@@ -283,7 +297,9 @@ pub mod list {
         inv_circ_op: akm_list_inv_circ_op(row list, index k, writes x, reads y, reads z) -> done;
         lambda_inv_circ_op: akm_list_lambda_inv_circ_op(row list, index k, writes x, reads z, reads lambda) -> done;
         standing: akm_list_standing(row list, index k, reads z) -> standing;
-        /// The whole list's step: each cone's at the caller's limit, and of each side the least; the limit twice for no cones.
+        /// the whole list's step: each cone's at the caller's limit, and of each side the least; the limit twice for
+        /// no cones
         whole_step_length: akm_whole_step_length(row list, reads dz, reads ds, reads z, reads s, number limit) -> pair;
+        // end
     }
 }

@@ -1,30 +1,26 @@
-// The calls on one cone of a list for C: akm_list_ before the name, the row of records and the cone's index before the rest. A record is
-// three numbers, the cone's start, its kind (0 nonnegative, 1 second-order) and its dimension. Of our own; nothing is ported.
+// The calls on one cone of a list for C: akm_list_ before the name, the row of records and the cone's index before the rest; and those on
+// the whole list. A record is three numbers, the cone's start, its kind (0 nonnegative, 1 second-order) and its dimension. Of our own;
+// nothing is ported. Written by tools/surface.
 use answers::Square;
 ghost use mathlib.Core.Path.{_≡_};
 ghost use mathlib.Core.List.{[], _∷_};
 ghost use Rattle.answers.specs.Outcome.{ofSquare, AsSquared, _⨾_};
 ghost use Rattle.conelist.specs.Layout.{PlaceOf};
 ghost use Rattle.conecalls.specs.Deed.{At};
+ghost use Rattle.records.specs.Record.{Cones};
 ghost use Rattle.list_margins.specs.Margins.{MarginsDeed};
-ghost use Rattle.list_unit_shift.specs.Shift.{ScaledUnitShiftDeed};
+ghost use Rattle.list_shifts.specs.Shift.{ScaledUnitShiftDeed, CombinedDsShiftDeed, DsFromDzOffsetDeed};
 ghost use Rattle.list_units.specs.Units.{UnitInitializationDeed};
 ghost use Rattle.list_identity.specs.Identity.{SetIdentityScalingDeed};
 ghost use Rattle.list_scaling.specs.Scaling.{UpdateScalingDeed};
 ghost use Rattle.list_blocks.specs.Block.{GetHsDeed};
 ghost use Rattle.list_square.specs.Square.{SquareHsDeed};
 ghost use Rattle.list_mul_hs.specs.Block.{MulHsDeed};
-ghost use Rattle.list_jordan.specs.Jordan.{CircOpDeed};
-ghost use Rattle.list_affine_ds.specs.Affine.{AffineDsDeed};
-ghost use Rattle.list_combined.specs.Combined.{CombinedDsShiftDeed};
-ghost use Rattle.list_offset.specs.Offset.{DsFromDzOffsetDeed};
+ghost use Rattle.list_jordan.specs.Jordan.{AffineDsDeed, CircOpDeed, InvCircOpDeed, LambdaInvCircOpDeed};
 ghost use Rattle.list_step.specs.Step.{StepLengthDeed};
-ghost use Rattle.list_products.specs.Product.{MulWDeed};
-ghost use Rattle.list_mul_winv.specs.Product.{MulWinvDeed};
-ghost use Rattle.list_inverse.specs.Inverse.{InvCircOpDeed, LambdaInvCircOpDeed};
+ghost use Rattle.list_products.specs.Product.{MulWDeed, MulWinvDeed};
 ghost use Rattle.list_standing.specs.Standing.{StandingDeed};
 ghost use Rattle.whole_step.specs.List.{ListStepLength};
-ghost use Rattle.records.specs.Record.{Cones};
 ghost use Rattle.codes.specs.Code.{real, whole, export, Values, Exported};
 
 #[no_mangle]
@@ -36,7 +32,8 @@ pub extern "C" fn akm_list_margins(
     beta: &mut f64,
 ) -> u8
     ensures { λ r. ⌜ export r (real (now (alpha .exit)) ∷ real (now (beta .exit)) ∷ []) tt
-        ≡ Exported Values (real (now (alpha .entry)) ∷ real (now (beta .entry)) ∷ []) (At (PlaceOf (Cones (now (list .entry))) k) MarginsDeed (now (z .entry))) ⌝ }
+        ≡ Exported Values (real (now (alpha .entry)) ∷ real (now (beta .entry)) ∷ []) (At (PlaceOf (Cones (now (list .entry))) k) MarginsDeed (now (z
+        .entry))) ⌝ }
 {
     let p = records::place_of(list, k);
     codes::margins(list_margins::margins_at(p, z), alpha, beta)
@@ -49,11 +46,10 @@ pub extern "C" fn akm_list_scaled_unit_shift(
     z: &mut [f64],
     alpha: f64,
 ) -> u8
-    ensures { λ r. ⌜ export r [] (now (z .exit) ⨾ tt)
-        ≡ Exported Values [] (At (PlaceOf (Cones (now (list .entry))) k) (ScaledUnitShiftDeed alpha) (now (z .entry))) ⌝ }
+    ensures { λ r. ⌜ export r [] (now (z .exit) ⨾ tt) ≡ Exported Values [] (At (PlaceOf (Cones (now (list .entry))) k) (ScaledUnitShiftDeed alpha) (now (z .entry))) ⌝ }
 {
     let p = records::place_of(list, k);
-    codes::answer(list_unit_shift::scaled_unit_shift_at(p, z, alpha))
+    codes::answer(list_shifts::scaled_unit_shift_at(p, z, alpha))
 }
 
 #[no_mangle]
@@ -81,7 +77,8 @@ pub extern "C" fn akm_list_set_identity_scaling(
     d: &mut [f64],
 ) -> u8
     ensures { λ r. ⌜ export r [] (now (w .exit) ⨾ now (u .exit) ⨾ now (v .exit) ⨾ now (eta .exit) ⨾ now (d .exit) ⨾ tt)
-        ≡ Exported Values [] (At (PlaceOf (Cones (now (list .entry))) k) SetIdentityScalingDeed (now (w .entry)) (now (u .entry)) (now (v .entry)) (now (eta .entry)) (now (d .entry))) ⌝ }
+        ≡ Exported Values [] (At (PlaceOf (Cones (now (list .entry))) k) SetIdentityScalingDeed (now (w .entry)) (now (u .entry)) (now (v .entry)) (now (eta
+        .entry)) (now (d .entry))) ⌝ }
 {
     let p = records::place_of(list, k);
     codes::answer(list_identity::set_identity_scaling_at(p, w, u, v, eta, d))
@@ -102,7 +99,8 @@ pub extern "C" fn akm_list_update_scaling(
     truth: &mut u8,
 ) -> u8
     ensures { λ r. ⌜ export r (whole (now (truth .exit)) ∷ []) (now (w .exit) ⨾ now (lambda .exit) ⨾ now (u .exit) ⨾ now (v .exit) ⨾ now (eta .exit) ⨾ now (d .exit) ⨾ tt)
-        ≡ Exported Values (whole (now (truth .entry)) ∷ []) (At (PlaceOf (Cones (now (list .entry))) k) UpdateScalingDeed (now (w .entry)) (now (lambda .entry)) (now (u .entry)) (now (v .entry)) (now (eta .entry)) (now (d .entry)) (now (s .entry)) (now (z .entry))) ⌝ }
+        ≡ Exported Values (whole (now (truth .entry)) ∷ []) (At (PlaceOf (Cones (now (list .entry))) k) UpdateScalingDeed (now (w .entry)) (now (lambda
+        .entry)) (now (u .entry)) (now (v .entry)) (now (eta .entry)) (now (d .entry)) (now (s .entry)) (now (z .entry))) ⌝ }
 {
     let p = records::place_of(list, k);
     codes::scaling(
@@ -167,7 +165,7 @@ pub extern "C" fn akm_list_affine_ds(
         ≡ Exported Values [] (At (PlaceOf (Cones (now (list .entry))) k) AffineDsDeed (now (ds .entry)) (now (lambda .entry))) ⌝ }
 {
     let p = records::place_of(list, k);
-    codes::answer(list_affine_ds::affine_ds_at(p, ds, lambda))
+    codes::answer(list_jordan::affine_ds_at(p, ds, lambda))
 }
 
 #[no_mangle]
@@ -182,10 +180,11 @@ pub extern "C" fn akm_list_combined_ds_shift(
     eta: &[f64],
 ) -> u8
     ensures { λ r. ⌜ export r [] (now (shift .exit) ⨾ now («step_z» .exit) ⨾ now («step_s» .exit) ⨾ tt)
-        ≡ Exported Values [] (At (PlaceOf (Cones (now (list .entry))) k) (CombinedDsShiftDeed «sigma_mu») (now (shift .entry)) (now («step_z» .entry)) (now («step_s» .entry)) (now (w .entry)) (now (eta .entry))) ⌝ }
+        ≡ Exported Values [] (At (PlaceOf (Cones (now (list .entry))) k) (CombinedDsShiftDeed «sigma_mu») (now (shift .entry)) (now («step_z» .entry)) (now
+        («step_s» .entry)) (now (w .entry)) (now (eta .entry))) ⌝ }
 {
     let p = records::place_of(list, k);
-    codes::answer(list_combined::combined_ds_shift_at(p, shift, step_z, step_s, sigma_mu, w, eta))
+    codes::answer(list_shifts::combined_ds_shift_at(p, shift, step_z, step_s, sigma_mu, w, eta))
 }
 
 #[no_mangle]
@@ -200,10 +199,11 @@ pub extern "C" fn akm_list_ds_from_dz_offset(
     eta: &[f64],
 ) -> u8
     ensures { λ r. ⌜ export r [] (now (out .exit) ⨾ tt)
-        ≡ Exported Values [] (At (PlaceOf (Cones (now (list .entry))) k) DsFromDzOffsetDeed (now (out .entry)) (now (ds .entry)) (now (z .entry)) (now (w .entry)) (now (lambda .entry)) (now (eta .entry))) ⌝ }
+        ≡ Exported Values [] (At (PlaceOf (Cones (now (list .entry))) k) DsFromDzOffsetDeed (now (out .entry)) (now (ds .entry)) (now (z .entry)) (now (w
+        .entry)) (now (lambda .entry)) (now (eta .entry))) ⌝ }
 {
     let p = records::place_of(list, k);
-    codes::answer(list_offset::ds_from_dz_offset_at(p, out, ds, z, w, lambda, eta))
+    codes::answer(list_shifts::ds_from_dz_offset_at(p, out, ds, z, w, lambda, eta))
 }
 
 #[no_mangle]
@@ -219,7 +219,8 @@ pub extern "C" fn akm_list_step_length(
     step_s: &mut f64,
 ) -> u8
     ensures { λ r. ⌜ export r (real (now («step_z» .exit)) ∷ real (now («step_s» .exit)) ∷ []) tt
-        ≡ Exported Values (real (now («step_z» .entry)) ∷ real (now («step_s» .entry)) ∷ []) (At (PlaceOf (Cones (now (list .entry))) k) (StepLengthDeed limit) (now (dz .entry)) (now (ds .entry)) (now (z .entry)) (now (s .entry))) ⌝ }
+        ≡ Exported Values (real (now («step_z» .entry)) ∷ real (now («step_s» .entry)) ∷ []) (At (PlaceOf (Cones (now (list .entry))) k) (StepLengthDeed
+        limit) (now (dz .entry)) (now (ds .entry)) (now (z .entry)) (now (s .entry))) ⌝ }
 {
     let p = records::place_of(list, k);
     codes::steps(
@@ -241,7 +242,8 @@ pub extern "C" fn akm_list_mul_w(
     eta: &[f64],
 ) -> u8
     ensures { λ r. ⌜ export r [] (now (y .exit) ⨾ tt)
-        ≡ Exported Values [] (At (PlaceOf (Cones (now (list .entry))) k) (MulWDeed alpha beta) (now (y .entry)) (now (x .entry)) (now (w .entry)) (now (eta .entry))) ⌝ }
+        ≡ Exported Values [] (At (PlaceOf (Cones (now (list .entry))) k) (MulWDeed alpha beta) (now (y .entry)) (now (x .entry)) (now (w .entry)) (now (eta
+        .entry))) ⌝ }
 {
     let p = records::place_of(list, k);
     codes::answer(list_products::mul_w_at(p, y, x, alpha, beta, w, eta))
@@ -259,10 +261,11 @@ pub extern "C" fn akm_list_mul_winv(
     eta: &[f64],
 ) -> u8
     ensures { λ r. ⌜ export r [] (now (y .exit) ⨾ tt)
-        ≡ Exported Values [] (At (PlaceOf (Cones (now (list .entry))) k) (MulWinvDeed alpha beta) (now (y .entry)) (now (x .entry)) (now (w .entry)) (now (eta .entry))) ⌝ }
+        ≡ Exported Values [] (At (PlaceOf (Cones (now (list .entry))) k) (MulWinvDeed alpha beta) (now (y .entry)) (now (x .entry)) (now (w .entry)) (now (eta
+        .entry))) ⌝ }
 {
     let p = records::place_of(list, k);
-    codes::answer(list_mul_winv::mul_winv_at(p, y, x, alpha, beta, w, eta))
+    codes::answer(list_products::mul_winv_at(p, y, x, alpha, beta, w, eta))
 }
 
 #[no_mangle]
@@ -292,7 +295,7 @@ pub extern "C" fn akm_list_inv_circ_op(
         ≡ Exported Values [] (At (PlaceOf (Cones (now (list .entry))) k) InvCircOpDeed (now (x .entry)) (now (y .entry)) (now (z .entry))) ⌝ }
 {
     let p = records::place_of(list, k);
-    codes::answer(list_inverse::inv_circ_op_at(p, x, y, z))
+    codes::answer(list_jordan::inv_circ_op_at(p, x, y, z))
 }
 
 #[no_mangle]
@@ -307,7 +310,7 @@ pub extern "C" fn akm_list_lambda_inv_circ_op(
         ≡ Exported Values [] (At (PlaceOf (Cones (now (list .entry))) k) LambdaInvCircOpDeed (now (x .entry)) (now (z .entry)) (now (lambda .entry))) ⌝ }
 {
     let p = records::place_of(list, k);
-    codes::answer(list_inverse::lambda_inv_circ_op_at(p, x, z, lambda))
+    codes::answer(list_jordan::lambda_inv_circ_op_at(p, x, z, lambda))
 }
 
 #[no_mangle]
@@ -324,7 +327,6 @@ pub extern "C" fn akm_list_standing(
     codes::stands(list_standing::standing_at(p, z), standing)
 }
 
-// The step over the whole list, z side and s side.
 #[no_mangle]
 pub extern "C" fn akm_whole_step_length(
     list: &[[usize; 3]],
@@ -337,7 +339,8 @@ pub extern "C" fn akm_whole_step_length(
     step_s: &mut f64,
 ) -> u8
     ensures { λ r. ⌜ export r (real (now («step_z» .exit)) ∷ real (now («step_s» .exit)) ∷ []) tt
-        ≡ Exported Values (real (now («step_z» .entry)) ∷ real (now («step_s» .entry)) ∷ []) (ListStepLength (Cones (now (list .entry))) (now (dz .entry)) (now (ds .entry)) (now (z .entry)) (now (s .entry)) limit) ⌝ }
+        ≡ Exported Values (real (now («step_z» .entry)) ∷ real (now («step_s» .entry)) ∷ []) (ListStepLength (Cones (now (list .entry))) (now (dz .entry))
+        (now (ds .entry)) (now (z .entry)) (now (s .entry)) limit) ⌝ }
 {
     codes::steps(
         records_step::list_step_length(list, dz, ds, z, s, limit),

@@ -11,12 +11,12 @@ use Rattle.conelist.specs.declared.Kind.the-variants.{Nonnegative, SecondOrder}
 use Rattle.conecalls.specs.Deed.{real, per-entry, per-cone, Deed, Plain, Writes}
 
 -- the contents are w, u, v, η, d
-unfoldable pub KindIdentity : Kind → (w u v : List Float) (η d : Float) → Contents 3 2
-KindIdentity (Nonnegative n) w u v η d = NonnegUnit (length w) ⨾ u ⨾ v ⨾ η ⨾ d ⨾ tt
-KindIdentity (SecondOrder n) w u v η d = Identity w u v d
+unfoldable pub KindSetIdentityScaling : Kind → (w u v : List Float) (η d : Float) → Contents 3 2
+KindSetIdentityScaling (Nonnegative n) w u v η d = NonnegUnit (length w) ⨾ u ⨾ v ⨾ η ⨾ d ⨾ tt
+KindSetIdentityScaling (SecondOrder n) w u v η d = Identity w u v d
 
 -- w, u, v, η, d. lambda stays: it is not even lent
 abbrev pub SetIdentityScalingDeed : Deed
 SetIdentityScalingDeed =
     Plain (per-entry real ∷ per-entry real ∷ per-entry real ∷ per-cone real ∷ per-cone real ∷ []) []
-    (λ kind w u v η d. Writes (KindIdentity kind w u v η d))
+    (λ kind w u v η d. Writes (KindSetIdentityScaling kind w u v η d))

@@ -1,5 +1,5 @@
-// Identity scaling of one cone of a list (document 01, "Second-order rules" and "Nonnegative rules"; source documents 000, lines 121 to 132, and
-// 001, lines 73 to 75), over the cone's place: by the cone's kind, on the cone's own ranges, and the call.
+// set_identity_scaling of one cone of a list (document 01, "Second-order rules" and "Nonnegative rules"), over the cone's place. For each:
+// by the cone's kind, on the cone's own ranges, and the call. Written by tools/surface.
 use answers::Answer;
 use conelist::Kind;
 use conelist::Place;
@@ -10,10 +10,12 @@ ghost use Rattle.answers.specs.Refusal.{Fit};
 ghost use Rattle.answers.specs.Outcome.{tells, ofAnswer, _⨾_};
 ghost use Rattle.conelist.specs.Layout.{LeastDim, Open};
 ghost use Rattle.conecalls.specs.Deed.{At, WorksAt};
-ghost use Rattle.list_identity.specs.Identity.{KindIdentity, SetIdentityScalingDeed};
+ghost use Rattle.list_identity.specs.Identity.{KindSetIdentityScaling, SetIdentityScalingDeed};
 
-// A nonnegative cone uses no u, v, η, d: they stay.
-fn kind_identity(
+// ---- set_identity_scaling (source documents 000, lines 121 to 132, and 001, lines 73 to 75): w = (1, 0, ..), eta = 1; above 4 entries
+// also d = 1/2 and u = v = (1/sqrt 2, 0, ..). lambda stays; of a nonnegative cone w = (1, 1, ..)
+
+fn kind_set_identity_scaling(
     kind: Kind,
     w: &mut [f64],
     u: &mut [f64],
@@ -23,7 +25,7 @@ fn kind_identity(
 )
     requires { ⌜ Fit (LeastDim kind) (length (now w)) (length (now u) ∷ length (now v) ∷ []) ⌝ }
     ensures { λ _. ⌜ now (w .exit) ⨾ now (u .exit) ⨾ now (v .exit) ⨾ now (eta .exit) ⨾ now (d .exit) ⨾ tt
-        ≡ KindIdentity kind (now (w .entry)) (now (u .entry)) (now (v .entry)) (now (eta .entry)) (now (d .entry)) ⌝ }
+        ≡ KindSetIdentityScaling kind (now (w .entry)) (now (u .entry)) (now (v .entry)) (now (eta .entry)) (now (d .entry)) ⌝ }
 {
     match kind {
         Kind::Nonnegative(n) => nn_identity::set_identity_scaling(w),
@@ -31,7 +33,7 @@ fn kind_identity(
     }
 }
 
-fn identity_in(
+fn set_identity_scaling_in(
     p: Place,
     w: &mut [f64],
     u: &mut [f64],
@@ -39,8 +41,11 @@ fn identity_in(
     eta: &mut [f64],
     d: &mut [f64],
 )
-    requires { ⌜ Open p ((length (now w), p .entries) ∷ (length (now u), p .entries) ∷ (length (now v), p .entries)
-        ∷ (length (now eta), p .count) ∷ (length (now d), p .count) ∷ []) ⌝ }
+    requires { ⌜ Open p ((length (now w), p .entries) ∷ (length (now u), p .entries) ∷ (length (now v), p .entries) ∷ (length (now eta), p .count) ∷ (
+      length (now d),
+      p
+          .count,
+    ) ∷ []) ⌝ }
     ensures { λ _. ⌜ now (w .exit) ⨾ now (u .exit) ⨾ now (v .exit) ⨾ now (eta .exit) ⨾ now (d .exit) ⨾ tt
         ≡ WorksAt p SetIdentityScalingDeed (now (w .entry)) (now (u .entry)) (now (v .entry)) (now (eta .entry)) (now (d .entry)) .news ⌝ }
 {
@@ -48,7 +53,7 @@ fn identity_in(
     let kind = p.kind;
     let k = p.index;
     let end = at + conelist::dim(kind);
-    kind_identity(
+    kind_set_identity_scaling(
         kind,
         &mut w[at..end],
         &mut u[at..end],
@@ -80,6 +85,6 @@ pub fn set_identity_scaling_at(
     if no != 0 {
         return Answer::Refused(no);
     }
-    identity_in(p, w, u, v, eta, d);
+    set_identity_scaling_in(p, w, u, v, eta, d);
     Answer::Done
 }

@@ -1,4 +1,4 @@
--- The public call's contract leaves one answer and one final contents of what it was lent. Assumes nothing.
+-- Each public call's contract leaves one answer and one final contents of what it was lent. Written by tools/surface. Assumes nothing.
 use mathlib.Core.Path.{_≡_}
 use mathlib.Core.List.{List}
 use lib.Ieee.{Float}
@@ -7,8 +7,16 @@ use Rattle.answers.specs.Outcome.{tells, ofAnswer}
 use Rattle.answers.proofs.Unique.{one-answer}
 use Rattle.conelist.specs.declared.Place.{Place}
 use Rattle.conecalls.specs.Deed.{Whole, Tuple, At}
-use Rattle.list_jordan.specs.Jordan.{CircOpDeed}
+use Rattle.list_jordan.specs.Jordan.{AffineDsDeed, CircOpDeed, InvCircOpDeed, LambdaInvCircOpDeed}
 
-module _ (p : Place) {r r′ : Answer} where
-  pub circ-op-at : (x y z : List Float) {e e′ : Tuple Whole (CircOpDeed .writes)} → tells (ofAnswer r) e ≡ At p CircOpDeed x y z → tells (ofAnswer r′) e′ ≡ At p CircOpDeed x y z → (r ≡ r′) × (e ≡ e′)
-  circ-op-at x y z = one-answer
+pub affine-ds-at : (p : Place) {r r′ : Answer} (ds lambda : List Float) {e e′ : Tuple Whole (AffineDsDeed .writes)} → tells (ofAnswer r) e ≡ At p AffineDsDeed ds lambda → tells (ofAnswer r′) e′ ≡ At p AffineDsDeed ds lambda → (r ≡ r′) × (e ≡ e′)
+affine-ds-at p ds lambda = one-answer
+
+pub circ-op-at : (p : Place) {r r′ : Answer} (x y z : List Float) {e e′ : Tuple Whole (CircOpDeed .writes)} → tells (ofAnswer r) e ≡ At p CircOpDeed x y z → tells (ofAnswer r′) e′ ≡ At p CircOpDeed x y z → (r ≡ r′) × (e ≡ e′)
+circ-op-at p x y z = one-answer
+
+pub inv-circ-op-at : (p : Place) {r r′ : Answer} (x y z : List Float) {e e′ : Tuple Whole (InvCircOpDeed .writes)} → tells (ofAnswer r) e ≡ At p InvCircOpDeed x y z → tells (ofAnswer r′) e′ ≡ At p InvCircOpDeed x y z → (r ≡ r′) × (e ≡ e′)
+inv-circ-op-at p x y z = one-answer
+
+pub lambda-inv-circ-op-at : (p : Place) {r r′ : Answer} (x z lambda : List Float) {e e′ : Tuple Whole (LambdaInvCircOpDeed .writes)} → tells (ofAnswer r) e ≡ At p LambdaInvCircOpDeed x z lambda → tells (ofAnswer r′) e′ ≡ At p LambdaInvCircOpDeed x z lambda → (r ≡ r′) × (e ≡ e′)
+lambda-inv-circ-op-at p x z lambda = one-answer

@@ -1,4 +1,4 @@
--- The public call's contract leaves one answer and one final contents of what it was lent. Assumes nothing.
+-- Each public call's contract leaves one answer and one final contents of what it was lent. Written by tools/surface. Assumes nothing.
 use mathlib.Core.Path.{_≡_}
 use mathlib.Core.List.{List}
 use lib.Ieee.{Float}

@@ -13,6 +13,5 @@ unfoldable pub KindMulHs : Kind → (x w : List Float) (η : Float) → List Flo
 KindMulHs (Nonnegative n) x w η = NonnegMulHs x w
 KindMulHs (SecondOrder n) x w η = MulHs x w η
 
--- y; x, w, η
 abbrev pub MulHsDeed : Deed
 MulHsDeed = Plain (per-entry real ∷ []) (per-entry real ∷ per-entry real ∷ per-cone real ∷ []) (λ kind y x w η. Writes (KindMulHs kind x w η ⨾ tt))

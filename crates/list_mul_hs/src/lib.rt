@@ -1,17 +1,18 @@
-// The product with Hs of one cone of a list (document 01, "Second-order rules" and "Nonnegative rules"; source documents 000, lines 248 to 256,
-// and 001, lines 103 to 108), over the cone's place: by the cone's kind, on the cone's own ranges, and the call.
+// mul_hs of one cone of a list (document 01, "Second-order rules" and "Nonnegative rules"), over the cone's place. For each: by the cone's
+// kind, on the cone's own ranges, and the call. Written by tools/surface.
 use answers::Answer;
 use conelist::Kind;
 use conelist::Place;
 ghost use mathlib.Core.Path.{_≡_};
 ghost use mathlib.Core.List.{[], _∷_};
 ghost use lib.ListN.{length};
-ghost use Rattle.vecmath.specs.Double.{_!_};
 ghost use Rattle.answers.specs.Refusal.{Fit};
 ghost use Rattle.answers.specs.Outcome.{tells, ofAnswer, _⨾_};
-ghost use Rattle.conelist.specs.Layout.{LeastDim, Open, Of, With};
-ghost use Rattle.conecalls.specs.Deed.{At};
+ghost use Rattle.conelist.specs.Layout.{LeastDim, Open};
+ghost use Rattle.conecalls.specs.Deed.{At, WorksAt};
 ghost use Rattle.list_mul_hs.specs.Block.{KindMulHs, MulHsDeed};
+
+// ---- mul_hs (source documents 000, lines 248 to 256, and 001, lines 103 to 108): y = Hs*x; of a nonnegative cone y = w*(w*x)
 
 fn kind_mul_hs(kind: Kind, y: &mut [f64], x: &[f64], w: &[f64], eta: f64)
     requires { ⌜ Fit (LeastDim kind) (length (now y)) (length (now x) ∷ length (now w) ∷ []) ⌝ }
@@ -25,17 +26,15 @@ fn kind_mul_hs(kind: Kind, y: &mut [f64], x: &[f64], w: &[f64], eta: f64)
 
 fn mul_hs_in(p: Place, y: &mut [f64], x: &[f64], w: &[f64], eta: &[f64])
     requires { ⌜ Open p ((length (now y), p .entries) ∷ (length (now x), p .entries) ∷ (length (now w), p .entries) ∷ (length (now eta), p .count) ∷ []) ⌝ }
-    ensures { λ _. ⌜ now (y .exit) ≡ With p (now (y .entry))
-        (KindMulHs (p .kind) (Of p (now (x .entry))) (Of p (now (w .entry))) (now (eta .entry) ! (p .index))) ⌝ }
+    ensures { λ _. ⌜ now (y .exit) ⨾ tt ≡ WorksAt p MulHsDeed (now (y .entry)) (now (x .entry)) (now (w .entry)) (now (eta .entry)) .news ⌝ }
 {
     let at = p.start;
     let kind = p.kind;
-    let end = at + conelist::dim(kind);
     let k = p.index;
+    let end = at + conelist::dim(kind);
     kind_mul_hs(kind, &mut y[at..end], &x[at..end], &w[at..end], eta[k]);
 }
 
-// y = Hs·x
 pub fn mul_hs_at(p: Place, y: &mut [f64], x: &[f64], w: &[f64], eta: &[f64]) -> Answer
     ensures { λ r. ⌜ tells (ofAnswer r) (now (y .exit) ⨾ tt) ≡ At p MulHsDeed (now (y .entry)) (now (x .entry)) (now (w .entry)) (now (eta .entry)) ⌝ }
 {

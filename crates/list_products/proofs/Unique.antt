@@ -1,4 +1,4 @@
--- Each public call's contract leaves one answer and one final contents of what it was lent. Assumes nothing.
+-- Each public call's contract leaves one answer and one final contents of what it was lent. Written by tools/surface. Assumes nothing.
 use mathlib.Core.Path.{_≡_}
 use mathlib.Core.List.{List}
 use lib.Ieee.{Float}
@@ -6,9 +6,11 @@ use Rattle.answers.specs.declared.Answer.{Answer}
 use Rattle.answers.specs.Outcome.{tells, ofAnswer}
 use Rattle.answers.proofs.Unique.{one-answer}
 use Rattle.conelist.specs.declared.Place.{Place}
-use Rattle.conecalls.specs.Deed.{At}
-use Rattle.list_products.specs.Product.{MulWDeed}
+use Rattle.conecalls.specs.Deed.{Whole, Tuple, At}
+use Rattle.list_products.specs.Product.{MulWDeed, MulWinvDeed}
 
-module _ (p : Place) {r r′ : Answer} where
-  pub mul-w-at : (α β : Float) (y x w η : List Float) {e e′ : List Float × Unit {0}} → tells (ofAnswer r) e ≡ At p (MulWDeed α β) y x w η → tells (ofAnswer r′) e′ ≡ At p (MulWDeed α β) y x w η → (r ≡ r′) × (e ≡ e′)
-  mul-w-at α β y x w η = one-answer
+pub mul-w-at : (p : Place) {r r′ : Answer} (α β : Float) (y x w η : List Float) {e e′ : Tuple Whole (MulWDeed α β .writes)} → tells (ofAnswer r) e ≡ At p (MulWDeed α β) y x w η → tells (ofAnswer r′) e′ ≡ At p (MulWDeed α β) y x w η → (r ≡ r′) × (e ≡ e′)
+mul-w-at p α β y x w η = one-answer
+
+pub mul-winv-at : (p : Place) {r r′ : Answer} (α β : Float) (y x w η : List Float) {e e′ : Tuple Whole (MulWinvDeed α β .writes)} → tells (ofAnswer r) e ≡ At p (MulWinvDeed α β) y x w η → tells (ofAnswer r′) e′ ≡ At p (MulWinvDeed α β) y x w η → (r ≡ r′) × (e ≡ e′)
+mul-winv-at p α β y x w η = one-answer

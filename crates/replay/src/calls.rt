@@ -83,7 +83,7 @@ fn from_none(c: Case, z: &mut [f64]) -> Answer {
         0x101 => soc_units::soc_scaled_unit_shift(z, c.a),
         0x201 => nn_units::nn_scaled_unit_shift(z, c.a),
         0x203 => nn_identity::nn_set_identity_scaling(z),
-        _ => list_unit_shift::scaled_unit_shift_at(c.place, z, c.a),
+        _ => list_shifts::scaled_unit_shift_at(c.place, z, c.a),
     }
 }
 
@@ -93,7 +93,7 @@ fn from_one(c: Case, x: &mut [f64], y: &[f64]) -> Answer {
         0x108 => soc_jordan::soc_affine_ds(x, y),
         0x205 => nn_blocks::nn_get_hs(x, y),
         0x208 => nn_jordan::nn_affine_ds(x, y),
-        _ => list_affine_ds::affine_ds_at(c.place, x, y),
+        _ => list_jordan::affine_ds_at(c.place, x, y),
     }
 }
 
@@ -117,8 +117,8 @@ fn from_two(c: Case, x: &mut [f64], y: &[f64], z: &[f64]) -> Answer {
         0x10f => soc_inverse::soc_inv_circ_op(x, y, z),
         0x110 => soc_inverse::soc_lambda_inv_circ_op(x, y, z),
         0x30e => list_jordan::circ_op_at(c.place, x, y, z),
-        0x30f => list_inverse::inv_circ_op_at(c.place, x, y, z),
-        0x310 => list_inverse::lambda_inv_circ_op_at(c.place, x, y, z),
+        0x30f => list_jordan::inv_circ_op_at(c.place, x, y, z),
+        0x310 => list_jordan::lambda_inv_circ_op_at(c.place, x, y, z),
         _ => nonnegative_from_two(c, x, y, z),
     }
 }
@@ -147,7 +147,7 @@ fn list_from_three(c: Case, y: &mut [f64], x: &[f64], w: &[f64], eta: &[f64]) ->
         0x305 => list_blocks::get_hs_at(c.place, y, x, w, eta),
         0x307 => list_mul_hs::mul_hs_at(c.place, y, x, w, eta),
         0x30c => list_products::mul_w_at(c.place, y, x, c.a, c.b, w, eta),
-        _ => list_mul_winv::mul_winv_at(c.place, y, x, c.a, c.b, w, eta),
+        _ => list_products::mul_winv_at(c.place, y, x, c.a, c.b, w, eta),
     }
 }
 
@@ -193,7 +193,7 @@ fn second_order_offset(words: &[u64], held: &[f64]) {
 
 fn list_offset(c: Case, words: &[u64], held: &[f64]) {
     let mut own1 = slices::numbers(words);
-    case_answers::answer(list_offset::ds_from_dz_offset_at(
+    case_answers::answer(list_shifts::ds_from_dz_offset_at(
         c.place,
         slices::part_mut(words, &mut own1, 1),
         slices::part(words, held, 2),
@@ -241,7 +241,7 @@ fn combined(
     match call {
         0x109 => soc_combined::soc_combined_ds_shift(shift, step_z, step_s, c.a, w, &number),
         0x209 => nn_combined::nn_combined_ds_shift(shift, step_z, step_s, c.a, w),
-        _ => list_combined::combined_ds_shift_at(c.place, shift, step_z, step_s, c.a, w, eta),
+        _ => list_shifts::combined_ds_shift_at(c.place, shift, step_z, step_s, c.a, w, eta),
     }
 }
 

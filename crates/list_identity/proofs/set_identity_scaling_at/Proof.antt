@@ -1,4 +1,4 @@
--- `list_identity::set_identity_scaling_at` meets its contract. Assumes nothing.
+-- `list_identity::set_identity_scaling_at` meets its contract. Written by tools/surface. Assumes nothing.
 use borrow.Author.Needs.{needs}
 use Rattle.answers.proofs.Laws.{outcomes}
 use Rattle.conelist.proofs.Placed.{open-at}
@@ -8,8 +8,6 @@ use Rattle.list_identity.proofs.set_identity_scaling_at.Tie as tie
 pub set-identity-scaling-at-spec : {M : Type 1} → statement M
 set-identity-scaling-at-spec =
     tie.close (tie.spec
-    (λ c κs. search needs)
-    (λ c. search outcomes)
-    (λ c κs. let test = c .before .before .before .before .before in open-at _ _ _ (test .before .refusal .ensures) (test .if1 .left))
-    (λ c. search needs) (λ c. search needs) (λ c. search needs) (λ c. search needs) (λ c. search needs)
-    (λ c. search outcomes))
+    (λ c κs. search needs) (λ c. search outcomes)
+    (λ c κs. open-at _ _ _ (c .before .before .before .before .before .before .refusal .ensures) (c .before .before .before .before .before .if1 .left))
+    (λ c. search needs) (λ c. search needs) (λ c. search needs) (λ c. search needs) (λ c. search needs) (λ c. search outcomes))

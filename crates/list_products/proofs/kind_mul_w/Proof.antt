@@ -1,4 +1,4 @@
--- `list_products::kind_mul_w` meets its contract. Assumes nothing.
+-- `list_products::kind_mul_w` meets its contract. Written by tools/surface. Assumes nothing.
 use native.Mathlib.Omega.{arith}
 use borrow.Author.Needs.{needs}
 use Rattle.conelist.proofs.Placed.{two-least}
@@ -11,6 +11,5 @@ unfolding KindMulW
 kind-mul-w-spec =
     tie.close (tie.spec
     (λ c. search needs) (λ c κs. search needs) (λ c. search needs) (λ c κs. omega (arith, two-least)) (λ c. search needs)
-    (λ c. rw (c .before .before .before .before .before .kind .given .1) (search needs))
-    (λ c. search needs)
-    (λ c. rw (c .before .before .before .before .before .kind2 .given .1) (search needs)))
+    (λ c. rw (c .before .before .before .before .before .kind .given .1) (c .before .before .mul-w .ensures)) (λ c. search needs)
+    (λ c. rw (c .before .before .before .before .before .kind2 .given .1) (c .before .before .mul-w2 .ensures)))

@@ -1,8 +1,10 @@
--- `akmuzrel::soc::akm_soc_ds_from_dz_offset` meets its contract. Assumes nothing.
+-- `akmuzrel::soc::akm_soc_ds_from_dz_offset` meets its contract. Written by tools/surface. Assumes nothing.
 use borrow.Author.Needs.{needs}
 use Rattle.codes.proofs.Laws.{exported}
 use Rattle.akmuzrel.proofs.soc.akm_soc_ds_from_dz_offset.Statement.{statement}
 use Rattle.akmuzrel.proofs.soc.akm_soc_ds_from_dz_offset.Tie as tie
 
 pub akm-soc-ds-from-dz-offset-spec : {M : Type 1} → statement M
-akm-soc-ds-from-dz-offset-spec = tie.close (tie.spec (λ c κs. search needs) (λ c κs. search needs) (λ c. search needs) (λ c. search exported))
+akm-soc-ds-from-dz-offset-spec =
+    tie.close (tie.spec
+    (λ c κs. search needs) (λ c κs. search needs) (λ c. search needs) (λ c. search exported))

@@ -1,8 +1,10 @@
--- `akmuzrel::soc::akm_soc_get_hs` meets its contract. Assumes nothing.
+-- `akmuzrel::soc::akm_soc_get_hs` meets its contract. Written by tools/surface. Assumes nothing.
 use borrow.Author.Needs.{needs}
 use Rattle.codes.proofs.Laws.{exported}
 use Rattle.akmuzrel.proofs.soc.akm_soc_get_hs.Statement.{statement}
 use Rattle.akmuzrel.proofs.soc.akm_soc_get_hs.Tie as tie
 
 pub akm-soc-get-hs-spec : {M : Type 1} → statement M
-akm-soc-get-hs-spec = tie.close (tie.spec (λ c κs. search needs) (λ c κs. search needs) (λ c. search needs) (λ c. search exported))
+akm-soc-get-hs-spec =
+    tie.close (tie.spec
+    (λ c κs. search needs) (λ c κs. search needs) (λ c. search needs) (λ c. search exported))
