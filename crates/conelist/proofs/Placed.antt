@@ -5,7 +5,7 @@ use native.Mathlib.Nat.{add-sub-cancel-left}
 use mathlib.Core.Path.{_≡_, refl, sym, ap, _∙_}
 use mathlib.Core.Bool.{Bool, true, false, cond, _&&_}
 use mathlib.Core.List.{List, [], _∷_, _++_}
-use borrow.Author.Tests.{ltb-true, leb-true, leb-false, le-leb, lt-leb, eqb-true}
+use borrow.Author.Tests.{ltb-true, leb-true, leb-false, le-leb, lt-leb, eqb-true, eq-eqb}
 use lib.Dec.{ltb, leb, eqb}
 use lib.ListN.{take, drop}
 use lib.Ieee.{Float}
@@ -87,6 +87,15 @@ fit-and t (m ∷ ms) e =
 pub all-fit : (ms : List (ℕ × ℕ)) → AllFit ms ≡ true → Fits ms
 all-fit [] e = tt
 all-fit (m ∷ ms) e = let r = fit-and (eqb (m .0) (m .1)) ms e in (eqb-true (m .0) (m .1) (r .0), r .1)
+
+-- and back: where each slice has its length, or there is none, nothing is refused for it
+fits-and : (ms : List (ℕ × ℕ)) → Fits ms → FitAnd true ms ≡ true
+fits-and [] h = refl
+fits-and (m ∷ ms) h = rw (eq-eqb (m .0) (m .1) (h .0)) (fits-and ms (h .1))
+
+pub fits-all : (ms : List (ℕ × ℕ)) → Fits ms → AllFit ms ≡ true
+fits-all [] h = refl
+fits-all (m ∷ ms) h = rw (eq-eqb (m .0) (m .1) (h .0)) (fits-and ms (h .1))
 
 -- k is the number that the call computed
 pub open-at : (p : Place) (ms : List (ℕ × ℕ)) (k : ℕ) → k ≡ RefusalAt p ms → k ≡ 0 → Open p ms
