@@ -5,7 +5,8 @@
 
    A vector is a pointer and its length. A call takes any lengths and any numbers, NaN included. Its
    answer is the number of the first refusal that applies, AKM_DONE for none; a refused call has written
-   nothing (the square block has its number in its answer, a struct). The caller owes this: no pointer is
+   nothing (the square block has its number in its answer, a struct). A truth is 1 for true and 0 for
+   false, a standing one of enum akm_standing. The caller owes this: no pointer is
    null, also where its length is 0; each is aligned and has its length behind it; and what is not const
    overlaps nothing else that the call is lent.
 
@@ -79,11 +80,11 @@ uint8_t akm_soc_unit_initialization(double *z, size_t z_len, double *s, size_t s
 
 /* ---- second-order: scaling */
 
-/* w = (1, 0, ..), eta = 1; above 4 entries also d = 1/2 and u = v = (1/sqrt 2, 0, ..). lambda stays */
+/* w = (1, 0, ..), eta = 1; above 4 entries also d = 1/2, u = (1/sqrt 2, 0, ..) and v = 0. lambda stays */
 uint8_t akm_soc_set_identity_scaling(double *w, size_t w_len, double *u, size_t u_len, double *v, size_t v_len, double *eta, double *d);
-/* true, or false where s, z or w has no root scale: then w and eta may have been written, and no more. A
-   mirrored point has one, a fault that is kept: s = z = (-2, 0) gives true and puts a NaN into lambda.
-   The standing tells such a point */
+/* truth = true, or false where s, z or w has no root scale: then w and eta may have been written, and no
+   more. A mirrored point has one, a fault that is kept: s = z = (-2, 0) gives true and puts a NaN into
+   lambda. The standing tells such a point */
 uint8_t akm_soc_update_scaling(const double *s, size_t s_len, const double *z, size_t z_len, double *w, size_t w_len, double *lambda, size_t lambda_len, double *u, size_t u_len, double *v, size_t v_len, double *eta, double *d, uint8_t *truth);
 
 /* ---- second-order: the block Hs */
@@ -130,7 +131,7 @@ uint8_t akm_soc_lambda_inv_circ_op(double *x, size_t x_len, const double *z, siz
 
 /* ---- second-order: standing and residuals */
 
-/* where z stands: one of the five standings */
+/* standing = where z stands, one of five */
 uint8_t akm_soc_standing(const double *z, size_t z_len, uint8_t *standing);
 /* value = (z0 - |z1|) * (z0 + |z1|), z1 the entries from 1 on */
 uint8_t akm_soc_residual(const double *z, size_t z_len, double *value);
@@ -157,7 +158,7 @@ uint8_t akm_nn_unit_initialization(double *z, size_t z_len, double *s, size_t s_
 
 /* w = (1, 1, ..) */
 uint8_t akm_nn_set_identity_scaling(double *w, size_t w_len);
-/* lambda = sqrt(s*z), w = sqrt(s/z); always true */
+/* lambda = sqrt(s*z), w = sqrt(s/z); truth = true */
 uint8_t akm_nn_update_scaling(const double *s, size_t s_len, const double *z, size_t z_len, double *w, size_t w_len, double *lambda, size_t lambda_len, uint8_t *truth);
 
 /* ---- nonnegative: the block Hs */
@@ -200,7 +201,7 @@ uint8_t akm_nn_lambda_inv_circ_op(double *x, size_t x_len, const double *z, size
 
 /* ---- nonnegative: standing and residuals */
 
-/* where z stands: one of the five standings but the mirrored one */
+/* standing = where z stands, one of five, but never mirrored */
 uint8_t akm_nn_standing(const double *z, size_t z_len, uint8_t *standing);
 /* end */
 

@@ -180,11 +180,11 @@ pub mod soc {
         scaled_unit_shift: akm_soc_scaled_unit_shift(writes z, number alpha) -> done;
         /// z = s = (1, 0, ..)
         unit_initialization: akm_soc_unit_initialization(writes z, writes s) -> done;
-        /// w = (1, 0, ..), eta = 1; above 4 entries also d = 1/2 and u = v = (1/sqrt 2, 0, ..). lambda stays
+        /// w = (1, 0, ..), eta = 1; above 4 entries also d = 1/2, u = (1/sqrt 2, 0, ..) and v = 0. lambda stays
         set_identity_scaling: akm_soc_set_identity_scaling(writes w, writes u, writes v, stores eta, stores d) -> done;
-        /// true, or false where s, z or w has no root scale: then w and eta may have been written, and no more. A
-        /// mirrored point has one, a fault that is kept: s = z = (-2, 0) gives true and puts a NaN into lambda. The
-        /// standing tells such a point
+        /// truth = true, or false where s, z or w has no root scale: then w and eta may have been written, and no
+        /// more. A mirrored point has one, a fault that is kept: s = z = (-2, 0) gives true and puts a NaN into
+        /// lambda. The standing tells such a point
         update_scaling: akm_soc_update_scaling(reads s, reads z, writes w, writes lambda, writes u, writes v, stores eta, stores d) -> truth;
         /// hs has n numbers for n above 4, else n(n+1)/2: the upper triangle by columns
         get_hs: akm_soc_get_hs(writes hs, reads w, lent eta, lent d) -> done;
@@ -216,7 +216,7 @@ pub mod soc {
         inv_circ_op: akm_soc_inv_circ_op(writes x, reads y, reads z) -> done;
         /// the x whose Jordan product with lambda is z
         lambda_inv_circ_op: akm_soc_lambda_inv_circ_op(writes x, reads z, reads lambda) -> done;
-        /// where z stands: one of the five standings
+        /// standing = where z stands, one of five
         standing: akm_soc_standing(reads z) -> standing;
         /// value = (z0 - |z1|) * (z0 + |z1|), z1 the entries from 1 on
         residual: akm_soc_residual(reads z) -> number;
@@ -240,7 +240,7 @@ pub mod nn {
         unit_initialization: akm_nn_unit_initialization(writes z, writes s) -> done;
         /// w = (1, 1, ..)
         set_identity_scaling: akm_nn_set_identity_scaling(writes w) -> done;
-        /// lambda = sqrt(s*z), w = sqrt(s/z); always true
+        /// lambda = sqrt(s*z), w = sqrt(s/z); truth = true
         update_scaling: akm_nn_update_scaling(reads s, reads z, writes w, writes lambda) -> truth;
         /// hs = w*w
         get_hs: akm_nn_get_hs(writes hs, reads w) -> done;
@@ -268,7 +268,7 @@ pub mod nn {
         inv_circ_op: akm_nn_inv_circ_op(writes x, reads y, reads z) -> done;
         /// x = z/lambda
         lambda_inv_circ_op: akm_nn_lambda_inv_circ_op(writes x, reads z, reads lambda) -> done;
-        /// where z stands: one of the five standings but the mirrored one
+        /// standing = where z stands, one of five, but never mirrored
         standing: akm_nn_standing(reads z) -> standing;
         // end
     }

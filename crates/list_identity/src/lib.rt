@@ -13,7 +13,7 @@ ghost use Rattle.conecalls.specs.Deed.{At, WorksAt};
 ghost use Rattle.list_identity.specs.Identity.{KindSetIdentityScaling, SetIdentityScalingDeed};
 
 // ---- set_identity_scaling (source documents 000, lines 121 to 132, and 001, lines 73 to 75): w = (1, 0, ..), eta = 1; above 4 entries
-// also d = 1/2 and u = v = (1/sqrt 2, 0, ..). lambda stays; of a nonnegative cone w = (1, 1, ..)
+// also d = 1/2, u = (1/sqrt 2, 0, ..) and v = 0. lambda stays; of a nonnegative cone w = (1, 1, ..)
 
 fn kind_set_identity_scaling(
     kind: Kind,
