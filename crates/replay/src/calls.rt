@@ -228,35 +228,52 @@ fn writes_two(c: Case, words: &[u64]) {
     slices::told(words, own2, 2);
 }
 
-fn combined(
-    c: Case,
-    shift: &mut [f64],
-    step_z: &mut [f64],
-    step_s: &mut [f64],
-    w: &[f64],
-    eta: &[f64],
-    number: f64,
-) -> Answer {
-    let call = c.call;
-    match call {
-        0x109 => soc_combined::soc_combined_ds_shift(shift, step_z, step_s, c.a, w, &number),
-        0x209 => nn_combined::nn_combined_ds_shift(shift, step_z, step_s, c.a, w),
-        _ => list_shifts::combined_ds_shift_at(c.place, shift, step_z, step_s, c.a, w, eta),
-    }
-}
-
-fn writes_three(c: Case, words: &[u64], held: &[f64]) {
+fn second_order_combined(c: Case, words: &[u64], held: &[f64]) {
     let mut own1 = slices::numbers(words);
     let mut own2 = own1;
     let mut own3 = own1;
-    case_answers::answer(combined(
-        c,
+    let eta = slices::number(words, held, 5);
+    case_answers::answer(soc_combined::soc_combined_ds_shift(
         slices::part_mut(words, &mut own1, 1),
         slices::part_mut(words, &mut own2, 2),
         slices::part_mut(words, &mut own3, 3),
+        c.a,
+        slices::part(words, held, 4),
+        &eta,
+    ));
+    slices::told(words, own1, 1);
+    slices::told(words, own2, 2);
+    slices::told(words, own3, 3);
+}
+
+fn nonnegative_combined(c: Case, words: &[u64], held: &[f64]) {
+    let mut own1 = slices::numbers(words);
+    let mut own2 = own1;
+    let mut own3 = own1;
+    case_answers::answer(nn_combined::nn_combined_ds_shift(
+        slices::part_mut(words, &mut own1, 1),
+        slices::part_mut(words, &mut own2, 2),
+        slices::part_mut(words, &mut own3, 3),
+        c.a,
+        slices::part(words, held, 4),
+    ));
+    slices::told(words, own1, 1);
+    slices::told(words, own2, 2);
+    slices::told(words, own3, 3);
+}
+
+fn list_combined(c: Case, words: &[u64], held: &[f64]) {
+    let mut own1 = slices::numbers(words);
+    let mut own2 = own1;
+    let mut own3 = own1;
+    case_answers::answer(list_shifts::combined_ds_shift_at(
+        c.place,
+        slices::part_mut(words, &mut own1, 1),
+        slices::part_mut(words, &mut own2, 2),
+        slices::part_mut(words, &mut own3, 3),
+        c.a,
         slices::part(words, held, 4),
         slices::part(words, held, 5),
-        slices::number(words, held, 5),
     ));
     slices::told(words, own1, 1);
     slices::told(words, own2, 2);
@@ -382,6 +399,15 @@ fn offsets(c: Case, words: &[u64], held: &[f64]) {
         second_order_offset(words, held);
     } else {
         list_offset(c, words, held);
+    }
+}
+
+fn writes_three(c: Case, words: &[u64], held: &[f64]) {
+    let call = c.call;
+    match call {
+        0x109 => second_order_combined(c, words, held),
+        0x209 => nonnegative_combined(c, words, held),
+        _ => list_combined(c, words, held),
     }
 }
 
