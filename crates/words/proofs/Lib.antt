@@ -1,0 +1,2 @@
+-- `Product`: a product by the halves of its factors.
+pub mod Product
