@@ -1,0 +1,2 @@
+-- `Patterns`: which patterns are no NaN's.
+pub mod Patterns
