@@ -17,6 +17,7 @@ use std::time::Instant;
 // A lent slice is passed as its pointer and its length.
 extern "C" {
     fn measured_sqrt(x: f64) -> f64;
+    fn measured_plain_sqrt(x: f64) -> f64;
     fn measured_sqrt_all(y: *mut f64, y_len: usize, x: *const f64, x_len: usize) -> bool;
     fn measured_dot(x: *const f64, x_len: usize, y: *const f64, y_len: usize) -> f64;
     fn measured_axpby(
@@ -45,6 +46,16 @@ fn sqrt(x: f64) -> f64 {
 
 fn sqrt_all(y: &mut [f64], x: &[f64]) {
     std::iter::zip(y, x).for_each(|(y, x)| *y = x.sqrt());
+}
+
+// ---- our root the plain way, as it was before document 02's item 2
+
+fn plain_sqrt(x: f64) -> f64 {
+    unsafe { measured_plain_sqrt(x) }
+}
+
+fn plain_sqrt_all(y: &mut [f64], x: &[f64]) {
+    std::iter::zip(y, x).for_each(|(y, x)| *y = plain_sqrt(*x));
 }
 
 // ---- the clock
@@ -260,25 +271,41 @@ fn roots(bench: &Bench, random: &mut Random) {
     let subnormal: Vec<f64> = (0..4096)
         .map(|k| f64::from_bits(random.bits() >> (12 + k % 52) | 1))
         .collect();
-    let (f, g) = black_box((
+    let (one, all) = black_box((
         measured_sqrt as unsafe extern "C" fn(_) -> _,
-        sqrt as fn(f64) -> f64,
-    ));
-    for (name, values) in [("sqrt", &normal), ("sqrt of subnormals", &subnormal)] {
-        let rattle = || values.iter().map(|x| unsafe { f(*x) }).fold(0.0, f64::max);
-        let rust = || values.iter().map(|x| g(*x)).fold(0.0, f64::max);
-        assert!(same(&[rattle()], &[rust()]));
-        bench.pair(name, 1, values.len(), rattle, rust);
-    }
-    let (f, g) = black_box((
         measured_sqrt_all as unsafe extern "C" fn(_, _, _, _) -> _,
-        sqrt_all as fn(&mut [f64], &[f64]),
     ));
-    for n in [8, 64, 4096] {
-        let x = &normal[..n];
-        let rattle = |y: Lent| unsafe { f(y.at, n, black_box(x.as_ptr()), n) };
-        let rust = |y: Lent| g(y.slice(), black_box(x));
-        bench.writes("sqrt entry by entry", n, &vec![0.0; n], rattle, rust);
+    let sides = black_box([
+        (
+            "",
+            sqrt as fn(f64) -> f64,
+            sqrt_all as fn(&mut [f64], &[f64]),
+        ),
+        (", plain beside", plain_sqrt, plain_sqrt_all),
+    ]);
+    for (beside, g, g_all) in sides {
+        for (of, values) in [("sqrt", &normal), ("sqrt of subnormals", &subnormal)] {
+            let rattle = || {
+                values
+                    .iter()
+                    .map(|x| unsafe { one(*x) })
+                    .fold(0.0, f64::max)
+            };
+            let rust = || values.iter().map(|x| g(*x)).fold(0.0, f64::max);
+            assert!(same(&[rattle()], &[rust()]));
+            bench.pair(&format!("{of}{beside}"), 1, values.len(), rattle, rust);
+        }
+        for (of, values, n) in [
+            ("sqrt entry by entry", &normal, 8),
+            ("sqrt entry by entry", &normal, 64),
+            ("sqrt entry by entry", &normal, 4096),
+            ("subnormal entries", &subnormal, 4096),
+        ] {
+            let x = &values[..n];
+            let rattle = |y: Lent| unsafe { all(y.at, n, black_box(x.as_ptr()), n) };
+            let rust = |y: Lent| g_all(y.slice(), black_box(x));
+            bench.writes(&format!("{of}{beside}"), n, &vec![0.0; n], rattle, rust);
+        }
     }
 }
 

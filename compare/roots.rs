@@ -1,34 +1,69 @@
-// The proved root beside Rust's `f64::sqrt`, which is the machine's, on some ten million doubles:
-// bit for bit, all NaNs counted as one.
+// The proved root, and the plain way that stands behind it, beside Rust's `f64::sqrt`, which is the
+// machine's, on some hundred million doubles: bit for bit, all NaNs counted as one. Of each group it
+// tells besides how often the guess at a root is too far off, so that the plain way answers.
+#[path = "../crates/guess/src/lib.rt"]
+mod guess;
 mod random;
 
 use random::Random;
 
 extern "C" {
     fn measured_sqrt(x: f64) -> f64;
+    fn measured_plain_sqrt(x: f64) -> f64;
 }
 
 fn same(x: f64, y: f64) -> bool {
     x.is_nan() && y.is_nan() || x.to_bits() == y.to_bits()
 }
 
+// Whether a guess is settled, as `settle` of crate root has it, and how far it is off: the guess as
+// a whole number is as many units in the last place above the nearest root.
+fn off(b: u64) -> Option<i64> {
+    let shift = if b >> 52 == 0 {
+        b.leading_zeros() as u64 - 11
+    } else {
+        0
+    };
+    let bits = (b << shift) + (shift % 2 << 52);
+    let a = (bits & DIGITS | 1 << 52) << ((bits >> 52) + 1) % 2;
+    let c = (guess::root(bits).to_bits() & DIGITS | 1 << 52) + 1;
+    let over = (c as i128) * (c as i128 + 1) - ((a as i128) << 52);
+    let bounds = [2 * c, 4 * c - 2, 6 * c - 6];
+    let down = bounds
+        .iter()
+        .filter(|&&bound| over >= bound as i128)
+        .count() as i64;
+    (over >= 0 && down < 3).then_some(down - 1)
+}
+
+#[derive(Default)]
 struct Tally {
     passed: u64,
     failed: u64,
+    guessed: [u64; 3],
+    plain: u64,
 }
 
 impl Tally {
     fn bits(&mut self, b: u64) {
         let x = f64::from_bits(b);
-        let (ours, theirs) = (unsafe { measured_sqrt(x) }, x.sqrt());
-        if same(ours, theirs) {
+        if b > 0 && b < 0x7ff << 52 {
+            match off(b) {
+                Some(n) => self.guessed[(n + 1) as usize] += 1,
+                None => self.plain += 1,
+            }
+        }
+        let (ours, plain) = unsafe { (measured_sqrt(x), measured_plain_sqrt(x)) };
+        let theirs = x.sqrt();
+        if same(ours, theirs) && same(plain, theirs) {
             self.passed += 1;
         } else {
             self.failed += 1;
             if self.failed <= 20 {
                 println!(
-                    "{b:#018x}: {:#018x}, and Rust has {:#018x}",
+                    "{b:#018x}: {:#018x}, the plain way {:#018x}, and Rust has {:#018x}",
                     ours.to_bits(),
+                    plain.to_bits(),
                     theirs.to_bits()
                 );
             }
@@ -42,8 +77,8 @@ impl Tally {
         }
     }
 
-    fn told(&self, name: &str, before: u64) {
-        println!("{name:56} {:9}", self.passed + self.failed - before);
+    fn all(&self) -> u64 {
+        self.passed + self.failed
     }
 }
 
@@ -62,14 +97,16 @@ fn cut(n: u128, power: i32) -> Option<u64> {
 
 fn main() {
     let mut random = Random(2);
-    let mut tally = Tally {
-        passed: 0,
-        failed: 0,
-    };
+    let mut tally = Tally::default();
+    println!("{:56} {:>9} {:>6}", "", "doubles", "plain");
     let mut group = |name: &str, f: &mut dyn FnMut(&mut Tally)| {
-        let before = tally.passed + tally.failed;
+        let (all, plain) = (tally.all(), tally.plain);
         f(&mut tally);
-        tally.told(name, before);
+        println!(
+            "{name:56} {:9} {:6}",
+            tally.all() - all,
+            tally.plain - plain
+        );
     };
 
     group(
@@ -90,12 +127,12 @@ fn main() {
             }
         },
     );
-    group("every exponent: the ends and 1,500 others", &mut |t| {
+    group("every exponent: the ends and 15,000 others", &mut |t| {
         for field in 0..2048u64 {
             for digits in [0, 1, 2, DIGITS / 2, DIGITS - 1, DIGITS] {
                 t.bits(field << 52 | digits);
             }
-            for _ in 0..1500 {
+            for _ in 0..15_000 {
                 t.bits(field << 52 | random.bits() & DIGITS);
             }
         }
@@ -104,7 +141,7 @@ fn main() {
     group("subnormals, by their leading zeros", &mut |t| {
         for size in 0..52 {
             t.around(1 << size);
-            for _ in 0..10_000 {
+            for _ in 0..100_000 {
                 t.bits(1 << size | random.bits() & ((1 << size) - 1));
             }
         }
@@ -113,7 +150,7 @@ fn main() {
     group(
         "whole numbers' squares, exact, and their neighbours",
         &mut |t| {
-            for _ in 0..500_000 {
+            for _ in 0..5_000_000 {
                 let c = random.bits() >> (38 + random.bits() % 20) | 1;
                 t.around(
                     ((c * c) as f64 * f64::powi(2.0, (random.bits() % 500) as i32 * 2 - 500))
@@ -123,7 +160,7 @@ fn main() {
         },
     );
     group("squares of doubles, and their neighbours", &mut |t| {
-        for _ in 0..500_000 {
+        for _ in 0..5_000_000 {
             let c = (random.bits() >> 11 | 1 << 52) as u128;
             if let Some(b) = cut(c * c, (random.bits() % 1900) as i32 - 1050) {
                 t.around(b);
@@ -133,7 +170,7 @@ fn main() {
     group(
         "squares of the middles between doubles, and neighbours",
         &mut |t| {
-            for _ in 0..500_000 {
+            for _ in 0..5_000_000 {
                 let c = (random.bits() >> 10 | 1 << 53 | 1) as u128;
                 if let Some(b) = cut(c * c, (random.bits() % 1900) as i32 - 1050) {
                     t.around(b);
@@ -142,11 +179,16 @@ fn main() {
         },
     );
     group("any pattern", &mut |t| {
-        for _ in 0..2_000_000 {
+        for _ in 0..20_000_000 {
             t.bits(random.bits());
         }
     });
 
+    let [under, nearest, over] = tally.guessed;
+    println!(
+        "the guess nearest {nearest}, one under {under}, one over {over}, further off {}",
+        tally.plain
+    );
     println!("{} passed, {} failed", tally.passed, tally.failed);
     std::process::exit((tally.failed > 0) as i32);
 }

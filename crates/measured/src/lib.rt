@@ -1,5 +1,5 @@
-// What bench/ and compare/ call of the layers below the public calls: the root and two vector
-// helpers, exported to C. Of our own; nothing is ported. Each is total: where lengths differ it
+// What bench/ and compare/ call of the layers below the public calls: the root, the plain root, and
+// two vector helpers, exported to C. Of our own; nothing is ported. Each is total: where lengths differ it
 // writes nothing.
 ghost use mathlib.Core.Path.{_≡_};
 ghost use mathlib.Core.Bool.{true, false};
@@ -14,6 +14,14 @@ pub extern "C" fn measured_sqrt(x: f64) -> f64
     ensures { λ r. ⌜ r ≡ Root x ⌝ }
 {
     root::sqrt(x)
+}
+
+// the same root the plain way, digit by digit
+#[no_mangle]
+pub extern "C" fn measured_plain_sqrt(x: f64) -> f64
+    ensures { λ r. ⌜ r ≡ Root x ⌝ }
+{
+    root::plain::sqrt(x)
 }
 
 // y = √x
