@@ -1,6 +1,6 @@
 // The proved root, and the plain way that stands behind it, beside Rust's `f64::sqrt`, which is the
 // machine's, on some hundred million doubles: bit for bit, all NaNs counted as one. Of each group it
-// tells besides how often the guess at a root is too far off, so that the plain way answers.
+// tells besides how often the guess at a root is wrong, so that its digits are found one by one.
 #[path = "../crates/guess/src/lib.rt"]
 mod guess;
 mod random;
@@ -16,9 +16,8 @@ fn same(x: f64, y: f64) -> bool {
     x.is_nan() && y.is_nan() || x.to_bits() == y.to_bits()
 }
 
-// Whether a guess is settled, as `settle` of crate root has it, and how far it is off: the guess as
-// a whole number is as many units in the last place above the nearest root.
-fn off(b: u64) -> Option<i64> {
+// Whether the guess is the nearest root, as `is_nearest` of crate root has it.
+fn guessed(b: u64) -> bool {
     let shift = if b >> 52 == 0 {
         b.leading_zeros() as u64 - 11
     } else {
@@ -26,32 +25,23 @@ fn off(b: u64) -> Option<i64> {
     };
     let bits = (b << shift) + (shift % 2 << 52);
     let a = (bits & DIGITS | 1 << 52) << ((bits >> 52) + 1) % 2;
-    let c = (guess::root(bits).to_bits() & DIGITS | 1 << 52) + 1;
+    let c = guess::root(bits).to_bits() & DIGITS | 1 << 52;
     let over = (c as i128) * (c as i128 + 1) - ((a as i128) << 52);
-    let bounds = [2 * c, 4 * c - 2, 6 * c - 6];
-    let down = bounds
-        .iter()
-        .filter(|&&bound| over >= bound as i128)
-        .count() as i64;
-    (over >= 0 && down < 3).then_some(down - 1)
+    (0..2 * c as i128).contains(&over)
 }
 
 #[derive(Default)]
 struct Tally {
     passed: u64,
     failed: u64,
-    guessed: [u64; 3],
-    plain: u64,
+    wrong: u64,
 }
 
 impl Tally {
     fn bits(&mut self, b: u64) {
         let x = f64::from_bits(b);
-        if b > 0 && b < 0x7ff << 52 {
-            match off(b) {
-                Some(n) => self.guessed[(n + 1) as usize] += 1,
-                None => self.plain += 1,
-            }
+        if b > 0 && b < 0x7ff << 52 && !guessed(b) {
+            self.wrong += 1;
         }
         let (ours, plain) = unsafe { (measured_sqrt(x), measured_plain_sqrt(x)) };
         let theirs = x.sqrt();
@@ -98,14 +88,14 @@ fn cut(n: u128, power: i32) -> Option<u64> {
 fn main() {
     let mut random = Random(2);
     let mut tally = Tally::default();
-    println!("{:56} {:>9} {:>6}", "", "doubles", "plain");
+    println!("{:56} {:>9} {:>6}", "", "doubles", "wrong");
     let mut group = |name: &str, f: &mut dyn FnMut(&mut Tally)| {
-        let (all, plain) = (tally.all(), tally.plain);
+        let (all, wrong) = (tally.all(), tally.wrong);
         f(&mut tally);
         println!(
             "{name:56} {:9} {:6}",
             tally.all() - all,
-            tally.plain - plain
+            tally.wrong - wrong
         );
     };
 
@@ -184,11 +174,7 @@ fn main() {
         }
     });
 
-    let [under, nearest, over] = tally.guessed;
-    println!(
-        "the guess nearest {nearest}, one under {under}, one over {over}, further off {}",
-        tally.plain
-    );
+    println!("{} guesses wrong", tally.wrong);
     println!("{} passed, {} failed", tally.passed, tally.failed);
     std::process::exit((tally.failed > 0) as i32);
 }

@@ -35,6 +35,8 @@ fn roots() {
     line_root(b"root of infinity", 1.0 / 0.0);
     line_root(b"root of -1", -1.0);
     line_root(b"root of NaN", 0.0 / 0.0);
+    // of our own: the guess of its digits is wrong, so they are found one by one
+    line_root(b"root of 1061318", 1061318.0);
 }
 
 fn leasts() {
