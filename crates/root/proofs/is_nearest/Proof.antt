@@ -15,10 +15,10 @@ is-nearest-spec =
     (λ c.
     let summed = c .before in
     let start = summed .before .before .before in
-    told-apart _ _ _ _ (start .pre .0) (start .pre .1 .1) (summed .before .high .ensures) (summed .before .before .low .ensures)
+    told-apart _ _ _ _ (start .pre .0) (start .pre .1) (summed .before .high .ensures) (summed .before .before .low .ensures)
     (λ e. c .if1 .taken (e ∙ ap (λ (x : ℕ). start .args .a / 2 ^ 12 + x) (sym (summed .bit .ensures)))))
     (λ c κs. search needs)
-    (λ c. record { fits = few-fit _ _ (omega arith) (c .before .before .before .before .before .pre .1 .1) })
+    (λ c. record { fits = few-fit _ _ (omega arith) (c .before .before .before .before .before .pre .1) })
     (λ c.
     let tested = c .before in
     let summed = tested .before in

@@ -1,5 +1,4 @@
 -- `root::raise` meets its contract. Assumes nothing.
-use borrow.Author.Needs.{needs}
 use native.Mathlib.Omega.{arith}
 use Rattle.root.proofs.Digits.{Subnormal, subnormal, raise-low, raise-high}
 use Rattle.root.proofs.raise.Statement.{statement}
