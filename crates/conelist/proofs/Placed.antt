@@ -9,7 +9,7 @@ use borrow.Author.Tests.{ltb-true, leb-true, leb-false, le-leb, lt-leb, eqb-true
 use lib.Dec.{ltb, leb, eqb}
 use lib.ListN.{take, drop}
 use lib.Ieee.{Float}
-use Rattle.answers.proofs.Laws.{clear-both, clear-lengths}
+use Rattle.answers.proofs.Laws.{both, clear-both, clear-lengths}
 use Rattle.conelist.specs.declared.Kind.{Kind}
 use Rattle.conelist.specs.declared.Kind.the-variants.{SecondOrder}
 use Rattle.conelist.specs.declared.Place.{Place}
@@ -41,10 +41,6 @@ module _ (p : Place) (n least m : ℕ) (s t q : Bool) (e : n ≡ Dim (p .kind)) 
 pub ruleset spots = (fine, bad)
 
 -- ---- no refusal: the cone's ranges lie inside
-
-both : (s t : Bool) → s && t ≡ true → (s ≡ true) × (t ≡ true)
-both true t e = (refl, e)
-both false t e = let z : _≡_ {A = ℕ} 0 1 = cc in absurd (omega arith)
 
 clear : (t : Bool) → _≡_ {A = ℕ} (cond t 0 4) 0 → t ≡ true
 clear true e = refl

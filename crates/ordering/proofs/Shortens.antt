@@ -139,7 +139,7 @@ units-positive f q k = go (ltb (q * 2 ^ k) (2 ^ (low f + suc (emax f))))
     go true = odd-positive (suc (prec f)) q k (low f)
     go false = refl
 
-round-positive : (a c : ℕ) → lt (round binary64 false a c) 𝟎 ≡ false
+pub round-positive : (a c : ℕ) → lt (round binary64 false a c) 𝟎 ≡ false
 unfolding round
 round-positive a c =
     let n = a * 2 ^ low binary64 in
@@ -147,9 +147,9 @@ round-positive a c =
     let u = c * 2 ^ k in
     units-positive binary64 (nearest (n / u) (compare (n % u * 2) u)) k
 
-round-zero : (c : ℕ) → 0 < c → round binary64 true 0 c ≡ fin true 0 (pos 0)
+pub round-zero : (s : Bool) (a c : ℕ) → a ≡ 0 → 0 < c → round binary64 s a c ≡ fin s 0 (pos 0)
 unfolding round
-round-zero c h = round-same binary64 true 0 c 0 1 h (omega arith) (omega arith) ∙ refl
+round-zero s a c e h = round-same binary64 s a c 0 1 h (omega arith) (omega (arith, e)) ∙ refl
 
 pub ratio : (z dz : Float) → lt z 𝟎 ≡ false → lt dz 𝟎 ≡ true → lt (neg z ⊘ dz) 𝟎 ≡ false
 unfolding neg div lt ofBits
@@ -176,7 +176,7 @@ ratio (fin true m k) (fin true n d) e f =
     let some : 0 < n * up d = omega (arith, ltb-true 0 (n * up d * 1 + 0 * down d) f) in
     let top : m * up k * down d ≡ 0 = rw zero-z (omega arith) in
     let divisor : eqb n 0 ≡ false = ne-eqb n 0 (λ q. let none : 0 < 0 * up d = rw q at some in omega arith) in
-    rw (divisor, top, round-zero (n * up d * down k) (mul-pos some (down-pos k)))
+    rw (divisor, round-zero true _ _ top (mul-pos some (down-pos k)))
 
 -- ---- steps, for all operations called least
 
