@@ -3,7 +3,8 @@
 // written; what is not written keeps its bits, NaNs too, and so do guard numbers around each buffer.
 // Zeros count by value after a least or greatest (docs/DIFFERENCES.md). When a call is refused is
 // document 01's table, read here in Rust; so are the standing, the square block, and the least and
-// greatest, which the crate does not have.
+// greatest, which the crate does not have. A second-order step along a direction of residual 0 with
+// b < 0 is held to document 02, item 3, read here too; how many were is told at the end.
 //
 // First each call is spoiled on purpose, in up to five ways, and must be reported; the call that SPOIL
 // names has its last bit turned throughout, which shows what a difference looks like. The first
@@ -359,6 +360,27 @@ fn pair(o: &mut [f64], (x, y): (f64, f64)) {
     o.copy_from_slice(&[x, y]);
 }
 
+// Document 01, "Second-order rules", the step: a, b and c.
+fn curvature(x: &[f64], y: &[f64]) -> (f64, f64, f64) {
+    let dot = std::iter::zip(&x[1..], &y[1..]).fold(0.0, |s, (x, y)| s + x * y);
+    (
+        soc_residual(y),
+        2.0 * (x[0] * y[0] - dot),
+        f64::max(0.0, soc_residual(x)),
+    )
+}
+
+// Document 02, item 3: the step where a = 0 and b < 0, the one branch in which the files do not decide.
+fn mended(x: &[f64], y: &[f64], limit: f64) -> Option<f64> {
+    let (a, b, c) = curvature(x, y);
+    let least = |limit, ratio| chosen(limit, ratio, ratio < limit);
+    let limit = match x[0] >= 0.0 && y[0] < 0.0 {
+        true => least(limit, -x[0] / y[0]),
+        false => limit,
+    };
+    (a == 0.0 && b < 0.0).then(|| least(limit, -c / b))
+}
+
 // Document 01, "Scaling": an early false changes nothing, a late one has written η and w.
 fn update(c: &mut Soc, s: &[f64], z: &[f64], t: &mut u8) -> Kept {
     let told = c.update_scaling(s, z, 0.0, ScalingStrategy::PrimalDual);
@@ -479,9 +501,13 @@ pub fn all() -> Vec<Call> {
             |c, l, out, ds, z| c.Δs_from_Δz_offset(out, ds, &mut [], z);
         Soc akm_soc_combined_ds_shift [v 0 v 1 v 2 a 0 v 3 o 0] "shift! step_z! step_s! w", "sigma_mu", "eta":
             |c, l, shift, step_z, step_s| c.combined_ds_shift(shift, step_z, step_s, l.a[0]);
-        Soc akm_soc_step [v 0 v 1 a 0 o 0] "x y", "limit", "step~": |_, l, x, y| l.o[0] = step_length_soc_component(x, y, l.a[0]);
-        Soc akm_soc_step_length [v 0 v 1 v 2 v 3 a 0 o 0 o 1] "dz ds z s", "limit", "step_z~ step_s~":
-            |c, l, dz, ds, z, s| pair(&mut l.o, c.step_length(dz, ds, z, s, &SETTINGS, l.a[0]));
+        Soc akm_soc_step [v 0 v 1 a 0 o 0] "x y", "limit", "step~":
+            |_, l, x, y| l.o[0] = mended(x, y, l.a[0]).unwrap_or(step_length_soc_component(x, y, l.a[0]));
+        Soc akm_soc_step_length [v 0 v 1 v 2 v 3 a 0 o 0 o 1] "dz ds z s", "limit", "step_z~ step_s~": |c, l, dz, ds, z, s| {
+            let (for_z, for_s) = c.step_length(dz, ds, z, s, &SETTINGS, l.a[0]);
+            let mended = |x, y, crate_says| mended(x, y, l.a[0]).unwrap_or(crate_says);
+            pair(&mut l.o, (mended(z, dz, for_z), mended(s, ds, for_s)))
+        };
         Nn akm_nn_margins [v 0 o 0 o 1] "z", "", "alpha~ beta!": |c, l, z| pair(&mut l.o, c.margins(z, PrimalCone));
         Nn akm_nn_scaled_unit_shift [v 0 a 0] "z!", "alpha", "": |c, l, z| c.scaled_unit_shift(z, l.a[0], PrimalCone);
         Nn akm_nn_unit_initialization [v 0 v 1] "z! s!", "", "": |c, l, z, s| c.unit_initialization(z, s);
@@ -756,17 +782,12 @@ pub fn way(call: &Call, l: &Lent) -> Option<&'static str> {
             Some(ways[soc_standing(&l.v[0]) as usize])
         }
         "akm_soc_step" => {
-            let (x, y) = (&l.v[0], &l.v[1]);
-            let dot = std::iter::zip(&x[1..], &y[1..]).fold(0.0, |s, (x, y)| s + x * y);
-            let (a, b, c) = (
-                soc_residual(y),
-                2.0 * (x[0] * y[0] - dot),
-                f64::max(0.0, soc_residual(x)),
-            );
+            let (a, b, c) = curvature(&l.v[0], &l.v[1]);
             let d = b * b - 4.0 * a * c;
             Some(match () {
                 _ if a > 0.0 && b > 0.0 => "step: a > 0 and b > 0",
                 _ if d < 0.0 => "step: d < 0",
+                _ if a == 0.0 && b < 0.0 => "step: a = 0, b < 0",
                 _ if a == 0.0 => "step: a = 0",
                 _ if c == 0.0 && a >= 0.0 => "step: c = 0, a > 0",
                 _ if c == 0.0 && a.is_nan() => "step: c = 0, a NaN",
@@ -777,6 +798,38 @@ pub fn way(call: &Call, l: &Lent) -> Option<&'static str> {
             })
         }
         _ => None,
+    }
+}
+
+// How many steps of a call fall under document 02, item 3, and of how many the files say otherwise.
+#[derive(Clone, Copy, Default)]
+pub struct Mended {
+    pub steps: u64,
+    pub other: u64,
+}
+
+impl Mended {
+    pub fn count(&mut self, call: &Call, l: &Lent) {
+        let at = |name| find(&call.v, name).map(|k| &l.v[k]);
+        let limit = find(&call.a, "limit").filter(|_| matches!(call.rust, Rust::Soc(_)));
+        let Some(limit) = limit.map(|k| l.a[k]) else {
+            return;
+        };
+        for (x, y) in [("x", "y"), ("z", "dz"), ("s", "ds")] {
+            let (Some(x), Some(y)) = (at(x), at(y)) else {
+                continue;
+            };
+            if let Some(step) = mended(x, y, limit) {
+                let files = step_length_soc_component(x, y, limit);
+                self.steps += 1;
+                self.other += !Equal::Value.holds(step, files) as u64;
+            }
+        }
+    }
+
+    pub fn print(&self) {
+        let Mended { steps, other } = self;
+        println!("{steps} steps with a = 0 and b < 0, held to document 02; of {other} the files say otherwise");
     }
 }
 
@@ -1360,11 +1413,13 @@ fn main() {
     let calls = all();
     let mut lines: Vec<[u64; 6]> = vec![[0; 6]; calls.len()];
     let mut ways = std::collections::BTreeMap::new();
+    let mut mended = Mended::default();
     let (passed, failed) = run(&calls, arguments(10_000_000), |at, l, verdict| {
         let due = verdict.due;
         lines[at][[0, 2, 0, 0, 0, 3, 4, 5][due as usize]] += 1;
         lines[at][1] += (due == 0 && verdict.numbers) as u64;
         if due == 0 {
+            mended.count(&calls[at], l);
             if let Some(way) = way(&calls[at], l) {
                 *ways.entry(way).or_insert(0) += 1;
             }
@@ -1383,6 +1438,7 @@ fn main() {
     for (way, times) in ways {
         println!("{way:28} {times:9}");
     }
+    mended.print();
     println!("{passed} passed, {failed} failed");
     std::process::exit((failed > 0) as i32);
 }

@@ -2,7 +2,8 @@
 // files over the stand-in. What is due: document 01's refusal table for lists, read here in Rust; else
 // what the files make of the cone's own numbers alone, as compare/calls.rs has it for the bare call of
 // that kind, put back into the whole buffers. So whatever is not the cone's own must keep its bits, the
-// row of records too. The list's step is the least of what the files tell of each cone.
+// row of records too. The list's step is the least of what the files tell of each cone, or, where a = 0
+// and b < 0, document 02, item 3.
 //
 // Otherwise as compare/calls.rs, which is taken in as a module: results spoiled on purpose, SPOIL, the
 // first difference of a call with the smallest input found, and the last line 'N passed, M failed'.
@@ -16,7 +17,8 @@ pub mod calls;
 
 use calls::random::Random;
 use calls::{
-    chosen, find, Call, Compared, Due, Equal, Lent, Name, Places, Spoil, Square, Taste, Verdict, P,
+    chosen, find, Call, Compared, Due, Equal, Lent, Mended, Name, Places, Spoil, Square, Taste,
+    Verdict, P,
 };
 use std::ops::Range;
 
@@ -277,6 +279,19 @@ impl<'a> Listed<'a> {
                 .reduce(|a, b| chosen(a, b, b < a));
             due.lent.o[side] = least.unwrap_or(input.lent.a[0]);
             due.o[side] = Equal::Value;
+        }
+    }
+
+    // the steps of the cone that is named, or of all
+    fn count(&self, input: &Input, mended: &mut Mended) {
+        let cones = match self.whole() {
+            true => 0..input.row.len(),
+            false => input.k..input.k + 1,
+        };
+        for k in cones.filter(|_| find(&self.soc.a, "limit").is_some()) {
+            if let Some(call) = self.of(&input.row[k]) {
+                mended.count(call, &self.taken(call, input, k));
+            }
         }
     }
 
@@ -582,11 +597,13 @@ fn main() {
     let bare = calls::all();
     let calls = all(&bare);
     let mut lines = vec![[0u64; COLUMNS.len()]; calls.len()];
+    let mut mended = Mended::default();
     let (passed, failed) = calls::run(&calls, calls::arguments(3_000_000), |at, input, verdict| {
         let line = &mut lines[at];
         match verdict.due {
             0 => {
                 line[0] += 1;
+                calls[at].count(input, &mut mended);
                 if !calls[at].whole() {
                     line[2 - input.row[input.k].kind] += 1;
                 }
@@ -619,6 +636,7 @@ fn main() {
         }
         println!();
     }
+    mended.print();
     println!("{passed} passed, {failed} failed");
     std::process::exit((failed > 0) as i32);
 }

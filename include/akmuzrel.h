@@ -111,9 +111,10 @@ uint8_t akm_soc_ds_from_dz_offset(double *out, size_t out_len, const double *ds,
 
 /* step_z = z along dz, step_s = s along ds */
 uint8_t akm_soc_step_length(const double *dz, size_t dz_len, const double *ds, size_t ds_len, const double *z, size_t z_len, const double *s, size_t s_len, double limit, double *step_z, double *step_s);
-/* how far x may go along y, at most limit; it lies in [0, limit]. A fault that is kept: along a y of
-   residual 0 it is the limit, lowered where the first entry would pass 0, also where that leads outside:
-   (1, 0) along (-1, 1) with limit 1 gives 1, though a half is the last point inside */
+/* how far x may go along y, at most limit; it lies in [0, limit]. Along a y of residual 0 it heeds the
+   one root: (1, 0) along (-1, 1) with limit 1 gives a half. A fault that is kept: from an x of residual
+   0 along a y of residual above 0 it is the limit, lowered where the first entry would pass 0, also
+   where y points down: (1, 1) along (-1, 0) with limit 1 gives 1, though no step stays inside */
 uint8_t akm_soc_step(const double *x, size_t x_len, const double *y, size_t y_len, double limit, double *step);
 
 /* ---- second-order: products */

@@ -202,9 +202,10 @@ pub mod soc {
         ds_from_dz_offset: akm_soc_ds_from_dz_offset(writes out, reads ds, reads z, reads w, reads lambda, lent eta) -> done;
         /// step_z = z along dz, step_s = s along ds
         step_length: akm_soc_step_length(reads dz, reads ds, reads z, reads s, number limit) -> pair;
-        /// how far x may go along y, at most limit; it lies in [0, limit]. A fault that is kept: along a y of
-        /// residual 0 it is the limit, lowered where the first entry would pass 0, also where that leads outside: (1,
-        /// 0) along (-1, 1) with limit 1 gives 1, though a half is the last point inside
+        /// how far x may go along y, at most limit; it lies in [0, limit]. Along a y of residual 0 it heeds the one
+        /// root: (1, 0) along (-1, 1) with limit 1 gives a half. A fault that is kept: from an x of residual 0 along
+        /// a y of residual above 0 it is the limit, lowered where the first entry would pass 0, also where y points
+        /// down: (1, 1) along (-1, 0) with limit 1 gives 1, though no step stays inside
         step: akm_soc_step(reads x, reads y, number limit) -> number;
         /// y = alpha*W*x + beta*y
         mul_w: akm_soc_mul_w(writes y, reads x, number alpha, number beta, reads w, lent eta) -> done;

@@ -27,7 +27,7 @@ fn small_examples() {
     assert_eq!(nn::step(&[4.0, 1.0, 9.0], &[-1.0, 2.0, -3.0], 10.0), Ok(3.0));
     assert_eq!(nn::step(&[f64::NAN], &[-1.0], 1.0), Ok(1.0));
     assert_eq!(soc::step(&[5.0, 0.0], &[0.0, 1.0], 10.0), Ok(5.0));
-    assert_eq!(soc::step(&[1.0, 0.0], &[-1.0, 1.0], 1.0), Ok(1.0));
+    assert_eq!(soc::step(&[1.0, 0.0], &[-1.0, 1.0], 1.0), Ok(0.5));
     assert_eq!(soc::step(&[1.0, 1.0], &[0.0, -1.0], 1.0), Ok(0.0));
 }
 

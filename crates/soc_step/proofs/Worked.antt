@@ -1,4 +1,5 @@
--- Document 01's lines of the second-order step, computed: one statement over one list. Assumes nothing.
+-- Document 01's lines of the second-order step, as document 02, item 3, changes them, computed: one statement over one list. Assumes nothing.
+use Prim.Native.Nat.{_^_}
 use mathlib.Core.Path.{refl}
 use mathlib.Core.List.{List, [], _∷_}
 use mathlib.Core.Bool.{false}
@@ -25,7 +26,15 @@ abbrev 1·0 : Float
 lines : List (Line (Ruling Reply))
 lines =
     (step (near 5 1 ∷ 0·0 ∷ []) (0·0 ∷ 1·0 ∷ []) (near 10 1) ⇒ gives (number (near 5 1)))
-    ∷ (step (1·0 ∷ 0·0 ∷ []) (minus 1 1 ∷ 1·0 ∷ []) 1·0 ⇒ gives (number 1·0))
+    -- a direction of residual 0 and b below 0: −c/b, where the first entries lower the limit to 1 and −c/b is a half; a limit below that;
+    -- a lowered limit below −c/b, which is infinity since c is; and −c/b a NaN, of two infinities
+    ∷ (step (1·0 ∷ 0·0 ∷ []) (minus 1 1 ∷ 1·0 ∷ []) 1·0 ⇒ gives (number (near 1 2)))
+    ∷ (step (1·0 ∷ 0·0 ∷ []) (minus 1 1 ∷ 1·0 ∷ []) (near 10 1) ⇒ gives (number (near 1 2)))
+    ∷ (step (1·0 ∷ 0·0 ∷ []) (minus 1 1 ∷ 1·0 ∷ []) (near 1 4) ⇒ gives (number (near 1 4)))
+    ∷ (step (near (2 ^ 600) 1 ∷ 0·0 ∷ []) (minus 1 1 ∷ 1·0 ∷ []) (inf false) ⇒ gives (number (near (2 ^ 600) 1)))
+    ∷ (step (near (2 ^ 600) 1 ∷ 0·0 ∷ []) (minus (2 ^ 500) 1 ∷ near (2 ^ 500) 1 ∷ []) (inf false) ⇒ gives (number (near (2 ^ 100) 1)))
+    -- and b 0, of no direction
+    ∷ (step (1·0 ∷ 0·0 ∷ []) (0·0 ∷ 0·0 ∷ []) (near 7 1) ⇒ gives (number (near 7 1)))
     ∷ (step (1·0 ∷ 1·0 ∷ []) (0·0 ∷ minus 1 1 ∷ []) 1·0 ⇒ gives (number 0·0))
     ∷ (step (nan ∷ 1·0 ∷ []) (0·0 ∷ 0·0 ∷ []) (near 7 1) ⇒ gives (number (near 7 1)))
     ∷ (step (1·0 ∷ 0·0 ∷ []) (minus 1 1 ∷ 0·0 ∷ []) (inf false) ⇒ gives (number 1·0))

@@ -1,5 +1,5 @@
--- Document 01, "Second-order rules": the step of x along y with limit αmax; source document 000, lines 289 to 302 and 421 to 495. The
--- operation called least is a parameter. x₁ is Tail x. Assumes nothing.
+-- Document 01, "Second-order rules", as document 02, item 3, mends it: the step of x along y with limit αmax; source document 000, lines 289 to
+-- 302 and 421 to 495. The operation called least is a parameter. x₁ is Tail x. Assumes nothing.
 use mathlib.Core.Bool.{cond, _&&_, _||_}
 use mathlib.Core.List.{List, [], _∷_}
 use lib.ListN.{length}
@@ -29,9 +29,9 @@ module _ (_⊓_ : Float → Float → Float) where
   unfoldable pub Lowered : (x₀ y₀ αmax : Float) → Float
   Lowered x₀ y₀ αmax = cond (le 𝟎 x₀ && lt y₀ 𝟎) (αmax ⊓ (neg x₀ ⊘ y₀)) αmax
 
-  -- a = 0 gives the limit
+  -- document 02, item 3: if b is below 0, the least of the limit and −c/b; otherwise the limit
   unfoldable pub ZeroCurvature : (b c αmax : Float) → Float
-  ZeroCurvature b c αmax = αmax
+  ZeroCurvature b c αmax = cond (lt b 𝟎) (αmax ⊓ (neg c ⊘ b)) αmax
 
   -- the least of limit and roots: r1 = 2c/t, r2 = t/(2a)
   unfoldable pub Roots : (a b c d αmax : Float) → Float

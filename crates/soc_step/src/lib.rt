@@ -1,4 +1,5 @@
-// The second-order cone's step (source document 000, lines 289 to 302 and 421 to 495): the bare calls, and behind them the kernel.
+// The second-order cone's step (source document 000, lines 289 to 302 and 421 to 495), mended along a direction of residual 0 (document 02,
+// item 3): the bare calls, and behind them the kernel.
 use answers::Step;
 use answers::StepPair;
 use answers::Steps;
@@ -45,6 +46,7 @@ fn roots(a: f64, b: f64, c: f64, d: f64, limit: f64) -> f64
     extrema::least(limit, extrema::least(r1, r2))
 }
 
+// With a = 0 one root is left, -c/b. The source gives the limit, since b is not below 0 where the direction is in the cone; but it need not be.
 fn branches(a: f64, b: f64, c: f64, d: f64, limit: f64) -> f64
     ensures { λ r. ⌜ r ≡ Branches Least a b c d limit ⌝ }
 {
@@ -52,7 +54,11 @@ fn branches(a: f64, b: f64, c: f64, d: f64, limit: f64) -> f64
         return limit;
     }
     if a == 0.0 {
-        return limit;
+        return if b < 0.0 {
+            extrema::least(limit, -c / b)
+        } else {
+            limit
+        };
     }
     if c == 0.0 {
         return if a >= 0.0 { limit } else { 0.0 };

@@ -1,4 +1,5 @@
--- Document 01, "Small examples": the lines marked T, as one statement over one list of them. Assumes nothing.
+-- Document 01, "Small examples": the lines marked T, as one statement over one list of them; the step along (−1, 1) as document 02, item 3,
+-- changes it. Assumes nothing.
 use Prim.Native.Nat.{ℕ, zero, suc}
 use mathlib.Core.Path.{_≡_, refl, ap}
 use mathlib.Core.Bool.{Bool, true, false}
@@ -95,7 +96,7 @@ lines =
     ∷ (of 0 0 (NnStep (three (near 4 1) 1·0 (near 9 1)) (three (minus 1 1) (near 2 1) (minus 3 1)) (near 10 1)) ⇒ is (near 3 1))
     ∷ (of 0 0 (NnStep (one nan) (one (minus 1 1)) 1·0) ⇒ is 1·0)
     ∷ (of 0 0 (SocStep (two (near 5 1) 0·0) (two 0·0 1·0) (near 10 1)) ⇒ is (near 5 1))
-    ∷ (of 0 0 (SocStep (two 1·0 0·0) (two (minus 1 1) 1·0) 1·0) ⇒ is 1·0)
+    ∷ (of 0 0 (SocStep (two 1·0 0·0) (two (minus 1 1) 1·0) 1·0) ⇒ is (near 1 2))
     ∷ (of 0 0 (SocStep (two 1·0 1·0) (two 0·0 (minus 1 1)) 1·0) ⇒ is 0·0)
     ∷ []
 

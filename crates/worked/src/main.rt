@@ -249,6 +249,22 @@ fn soc_step(of: &[u8], x0: f64, x1: f64, y0: f64, y1: f64, limit: f64) {
 fn second_order_steps() {
     soc_step(b"(5, 0) along (0, 1), limit 10", 5.0, 0.0, 0.0, 1.0, 10.0);
     soc_step(b"(1, 0) along (-1, 1), limit 1", 1.0, 0.0, -1.0, 1.0, 1.0);
+    soc_step(
+        b"(1, 0) along (-1, 1), limit 1/4",
+        1.0,
+        0.0,
+        -1.0,
+        1.0,
+        0.25,
+    );
+    soc_step(
+        b"(1e200, 0) along (-1, 1), limit 2e200",
+        1e200,
+        0.0,
+        -1.0,
+        1.0,
+        2e200,
+    );
     soc_step(b"(1, 1) along (0, -1), limit 1", 1.0, 1.0, 0.0, -1.0, 1.0);
     soc_step(b"(1, 2) along (0, 0), limit 7", 1.0, 2.0, 0.0, 0.0, 7.0);
     soc_step(b"(1, 0) along (1, 0), limit -0", 1.0, 0.0, 1.0, 0.0, -0.0);

@@ -9,8 +9,10 @@ unfolding Branches ZeroCurvature
 branches-spec =
     tie.close (tie.spec
     (λ c. rw (c .if1 .taken))
-    (λ c. rw (c .before .if1 .left, c .if2 .taken))
-    (λ c. rw (c .before .before .before .if1 .left, c .before .before .if2 .left, c .before .if3 .taken, c .if4 .taken))
-    (λ c. rw (c .before .before .before .if1 .left, c .before .before .if2 .left, c .before .if3 .taken, c .if4 .left))
     (λ c κs. search needs)
-    (λ c. rw (c .before .before .before .if1 .left, c .before .before .if2 .left, c .before .if3 .left) (c .roots .ensures)))
+    (λ c. rw (c .before .before .before .if1 .left, c .before .before .if2 .taken, c .before .if3 .taken) (c .least .ensures))
+    (λ c. rw (c .before .before .if1 .left, c .before .if2 .taken, c .if3 .left))
+    (λ c. rw (c .before .before .before .if1 .left, c .before .before .if2 .left, c .before .if4 .taken, c .if5 .taken))
+    (λ c. rw (c .before .before .before .if1 .left, c .before .before .if2 .left, c .before .if4 .taken, c .if5 .left))
+    (λ c κs. search needs)
+    (λ c. rw (c .before .before .before .if1 .left, c .before .before .if2 .left, c .before .if4 .left) (c .roots .ensures)))
