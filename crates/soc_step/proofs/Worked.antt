@@ -36,6 +36,8 @@ lines =
     -- and b 0, of no direction
     ∷ (step (1·0 ∷ 0·0 ∷ []) (0·0 ∷ 0·0 ∷ []) (near 7 1) ⇒ gives (number (near 7 1)))
     ∷ (step (1·0 ∷ 1·0 ∷ []) (0·0 ∷ minus 1 1 ∷ []) 1·0 ⇒ gives (number 0·0))
+    -- the fault that is kept: docs/DIFFERENCES.md
+    ∷ (step (1·0 ∷ 1·0 ∷ []) (minus 1 1 ∷ 0·0 ∷ []) 1·0 ⇒ gives (number 1·0))
     ∷ (step (nan ∷ 1·0 ∷ []) (0·0 ∷ 0·0 ∷ []) (near 7 1) ⇒ gives (number (near 7 1)))
     ∷ (step (1·0 ∷ 0·0 ∷ []) (minus 1 1 ∷ 0·0 ∷ []) (inf false) ⇒ gives (number 1·0))
     ∷ (step (1·0 ∷ 0·0 ∷ []) (1·0 ∷ 0·0 ∷ []) (minus 0 1) ⇒ gives (number (minus 0 1)))
