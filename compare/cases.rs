@@ -1,8 +1,8 @@
 // Writes recorded cases for the program replay, and what it must write of them: docs/CASES.md has the
 // format. The answers are what compare/calls.rs and compare/lists.rs hold the exports to: those of the
-// crate's three files over the stand-in, and document 01's refusals. A case whose answer hangs on which of
-// two opposite zeros a least or greatest takes is left out, since Rust may take either. The same cases are
-// written in every run.
+// crate's three files over the stand-in, document 01's refusals, and the step that document 02, item 3,
+// mends. A case whose answer hangs on which of two opposite zeros a least or greatest takes is left out,
+// since Rust may take either. The same cases are written in every run.
 //
 // cases STDIN STDOUT
 #![allow(confusable_idents, mixed_script_confusables, uncommon_codepoints)]
