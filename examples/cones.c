@@ -55,6 +55,18 @@ int main(void) {
     printf("steps of cone 1 %.17g and %.17g\n", step_z, step_s);
     akm_whole_step_length(list, 2, all_dz, ALL, all_ds, ALL, all_z, ALL, all_s, ALL, 1, &step_z, &step_s);
     printf("steps of the list %.17g and %.17g\n", step_z, step_s);
+
+    /* the whole list's scaling stops at the first cone that has none, as cone 1 for all_dz, which lies outside */
+    double all_w[ALL], all_lambda[ALL], all_u[ALL], all_v[ALL], all_eta[2], all_d[2];
+    size_t cone;
+    akm_fresh_state(all_w, ALL, all_lambda, ALL, all_u, ALL, all_v, ALL, all_eta, 2, all_d, 2);
+    for (int k = 0; k < 2; k++) {
+        if (akm_whole_update_scaling(list, 2, all_s, ALL, k ? all_dz : all_z, ALL, all_w, ALL, all_lambda, ALL,
+                                     all_u, ALL, all_v, ALL, all_eta, 2, all_d, 2, &truth, &cone) != AKM_DONE) return 1;
+        if (truth) print("lambda of the list", all_lambda, ALL);
+        else printf("no scaling of cone %zu\n", cone);
+    }
+
     printf("cone 2 is refused with %d\n", akm_list_standing(list, 2, 2, all_z, ALL, &standing));
     return 0;
 }

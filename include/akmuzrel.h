@@ -244,6 +244,10 @@ uint8_t akm_list_circ_op(const struct akm_cone *list, size_t list_len, size_t k,
 uint8_t akm_list_inv_circ_op(const struct akm_cone *list, size_t list_len, size_t k, double *x, size_t x_len, const double *y, size_t y_len, const double *z, size_t z_len);
 uint8_t akm_list_lambda_inv_circ_op(const struct akm_cone *list, size_t list_len, size_t k, double *x, size_t x_len, const double *z, size_t z_len, const double *lambda, size_t lambda_len);
 uint8_t akm_list_standing(const struct akm_cone *list, size_t list_len, size_t k, const double *z, size_t z_len, uint8_t *standing);
+/* the whole list's scaling: the calls on cone 0, 1, .. made one by one, up to and including the first
+   that answers false. truth = true for all, which leaves cone as it was, and is so of no cones; or
+   false, and cone = that cone's index: the cones behind it keep all their numbers */
+uint8_t akm_whole_update_scaling(const struct akm_cone *list, size_t list_len, const double *s, size_t s_len, const double *z, size_t z_len, double *w, size_t w_len, double *lambda, size_t lambda_len, double *u, size_t u_len, double *v, size_t v_len, double *eta, size_t eta_len, double *d, size_t d_len, uint8_t *truth, size_t *cone);
 /* the whole list's step: each cone's at the caller's limit, and of each side the least; the limit twice
    for no cones */
 uint8_t akm_whole_step_length(const struct akm_cone *list, size_t list_len, const double *dz, size_t dz_len, const double *ds, size_t ds_len, const double *z, size_t z_len, const double *s, size_t s_len, double limit, double *step_z, double *step_s);

@@ -205,7 +205,7 @@ function walk_proof(s,  i, k, says, asks, ws, start, step, ends, kept, all) {
 }
 
 # ---- a look
-function look_proof(s,  i, x, looked, core, both, all) {
+function look_proof(s,  i, x, looked, core, both, ends, all) {
     call(0, upto(behind(s, " = "), ";"), 1); walk = declared(result[id[0]])
     call(1, behind(s, "; "), 2); if (takes[1] != m) fail("CORE takes the whole rest")
     clear(); contents[name[id[0], 0]] = "cs"; looked = put(ensures[id[0]])
@@ -213,13 +213,14 @@ function look_proof(s,  i, x, looked, core, both, all) {
     for (i = 0; i < m; i++) { x = name[id[1], 2 + i]; if (lent[i] == "plain") value[x] = "v" path(i + 1); else { contents[x] = "v" path(i + 1); last[x] = "ws" path(i + 1) } }
     core = put(ensures[id[1]])
     clear(); contents[name[id[1], 0]] = "a .0 .now"; value[name[id[1], 1]] = "t"; terms(1, "given"); both = put(right(ensures[id[1]]))
+    ends = lemma("closes"); both = "s ∙ ap (λ (t : " walk "). " both ") e"; if (ends != "") both = ends " (" both ")"
     terms_of_f()
     all = "abbrev ps : List Par\nps = " pars "\n\n" proved() \
         "    looks 𝓤 H 𝓜 𝓖 𝓡 code.env code.function ps (λ W. " plains ") " row(walk) " (λ W. " of_result(walk) ") refl " row(result[me]) " (λ W. " of_result(result[me]) ") refl\n" \
         "    (λ cs v r ws. " looked ") (λ cs v r ws. " core ")\n" \
         at_call(0, "look") "((y .0, tt), (y .1, tt), tt, (y .2, tt), (slice-vals (y .2), tt)), tt))\n" \
         at_call(1, "core") "((y .0, y .3), (y .1, y .4), tt, (y .2, y .5), (slice-vals (y .2), y .6)), tt))\n" \
-        "    fm (κs .0) (qs .0) (a .0) (κs .1) (qs .1) (a .1) (λ r ws. " put(ensures[me]) ")\n    (λ p r ws e s. s ∙ ap (λ (t : " walk "). " both ") e) (λ K. refl) (emp 𝓤))"
+        "    fm (κs .0) (qs .0) (a .0) (κs .1) (qs .1) (a .1) (λ r ws. " put(ensures[me]) ")\n    (λ p r ws e s. " both ") (λ K. refl) (emp 𝓤))"
     print "-- `" me "` meets its contract: it looks at the list, and hands it on. Written by tools/proof. Assumes nothing."
     uses(all, "_∙_, slice-vals, looks"); callee(0, "look"); callee(1, "core"); own(); print all
 }

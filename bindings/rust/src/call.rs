@@ -84,6 +84,17 @@ macro_rules! call {
             crate::Refusal::of(unsafe { $e($($h)* &mut truth) }).map(|()| truth == 1)
         }
     };
+    ([$($doc:tt)*] $n:ident $e:ident scalings [$($x:tt)*] [$($s:tt)*] [$($h:tt)*]) => {
+        $($doc)*
+        #[allow(clippy::too_many_arguments)]
+        pub fn $n($($s)*) -> Result<crate::Scaled, crate::Refusal> {
+            extern "C" {
+                fn $e($($x)* _: &mut u8, _: &mut usize) -> u8;
+            }
+            let (mut truth, mut cone) = (0, 0);
+            crate::Refusal::of(unsafe { $e($($h)* &mut truth, &mut cone) }).map(|()| crate::Scaled::of(truth, cone))
+        }
+    };
     ([$($doc:tt)*] $n:ident $e:ident standing [$($x:tt)*] [$($s:tt)*] [$($h:tt)*]) => {
         $($doc)*
         pub fn $n($($s)*) -> Result<crate::Standing, crate::Refusal> {

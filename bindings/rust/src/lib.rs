@@ -76,6 +76,24 @@ impl Standing {
     }
 }
 
+/// What the scaling of a whole list came to.
+#[derive(Clone, Copy, Debug, PartialEq, Eq)]
+pub enum Scaled {
+    /// Every cone answered true, as of a list without cones.
+    AllTrue,
+    /// The first cone that answered false, by its index: the cones behind it are as they were.
+    FalseAt(usize),
+}
+
+impl Scaled {
+    fn of(truth: u8, cone: usize) -> Scaled {
+        match truth {
+            1 => Scaled::AllTrue,
+            _ => Scaled::FalseAt(cone),
+        }
+    }
+}
+
 #[derive(Clone, Copy, Debug, PartialEq, Eq)]
 #[repr(usize)]
 pub enum Kind {
@@ -298,6 +316,10 @@ pub mod list {
         inv_circ_op: akm_list_inv_circ_op(row list, index k, writes x, reads y, reads z) -> done;
         lambda_inv_circ_op: akm_list_lambda_inv_circ_op(row list, index k, writes x, reads z, reads lambda) -> done;
         standing: akm_list_standing(row list, index k, reads z) -> standing;
+        /// the whole list's scaling: the calls on cone 0, 1, .. made one by one, up to and including the first that
+        /// answers false. truth = true for all, which leaves cone as it was, and is so of no cones; or false, and
+        /// cone = that cone's index: the cones behind it keep all their numbers
+        whole_update_scaling: akm_whole_update_scaling(row list, reads s, reads z, writes w, writes lambda, writes u, writes v, writes eta, writes d) -> scalings;
         /// the whole list's step: each cone's at the caller's limit, and of each side the least; the limit twice for
         /// no cones
         whole_step_length: akm_whole_step_length(row list, reads dz, reads ds, reads z, reads s, number limit) -> pair;

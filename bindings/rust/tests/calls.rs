@@ -1,5 +1,5 @@
 //! The small examples of the rules, every refusal, and a cone of a list beside the same cone by itself.
-use akmuzrel::{block_numbers, fresh_state, list, nn, numbers, row, soc, Cone, Kind, Refusal, Standing, State};
+use akmuzrel::{block_numbers, fresh_state, list, nn, numbers, row, soc, Cone, Kind, Refusal, Scaled, Standing, State};
 use Kind::{Nonnegative, SecondOrder};
 
 const CONES: [(Kind, usize); 4] = [(Nonnegative, 3), (SecondOrder, 2), (SecondOrder, 5), (Nonnegative, 0)];
@@ -142,4 +142,74 @@ fn the_whole_step_is_the_least() {
     assert_eq!(list::whole_step_length(&list, &dz, &dz, &z, &z, 9.0), Ok(least));
     assert_eq!(list::whole_step_length(&[], &[], &[], &[], &[], 2.0), Ok((2.0, 2.0)));
     assert_eq!(list::whole_step_length(&list, &dz, &dz, &z, &z[1..], 9.0), Err(Refusal::Length));
+}
+
+/// A state whose every number is 7, so that what is not written shows.
+fn sevens(entries: usize, cones: usize) -> State {
+    let (entries, cones) = (vec![7.0; entries], vec![7.0; cones]);
+    let [w, lambda, u, v] = [(); 4].map(|()| entries.clone());
+    State { w, lambda, u, v, eta: cones.clone(), d: cones }
+}
+
+fn scale(list: &[Cone], s: &[f64], z: &[f64], state: &mut State) -> Result<Scaled, Refusal> {
+    let State { w, lambda, u, v, eta, d } = state;
+    list::whole_update_scaling(list, s, z, w, lambda, u, v, eta, d)
+}
+
+/// The calls on the first so many cones, one by one, and the last one's answer.
+fn scale_each(list: &[Cone], cones: usize, s: &[f64], z: &[f64], state: &mut State) -> Option<bool> {
+    let State { w, lambda, u, v, eta, d } = state;
+    (0..cones).map(|k| list::update_scaling(list, k, s, z, w, lambda, u, v, eta, d).unwrap()).last()
+}
+
+#[test]
+fn the_whole_scaling_is_that_of_each_cone_up_to_a_false() {
+    let list = row(&CONES);
+    let (mut all, mut each) = (sevens(10, 4), sevens(10, 4));
+    assert_eq!(scale(&list, &point(), &point(), &mut all), Ok(Scaled::AllTrue));
+    assert_eq!(scale_each(&list, 4, &point(), &point(), &mut each), Some(true));
+    assert_eq!(all, each);
+    assert_eq!(scale(&[], &[], &[], &mut sevens(0, 0)), Ok(Scaled::AllTrue));
+
+    // cone 1 has a point on the edge, which writes nothing; then one whose w has no root scale
+    for (point_s, point_z, eta, w) in [([3.0, 3.0], [5.0, 3.0], 7.0, [7.0; 2]), ([2.0, 0.0], [-2.0, 0.0], 1.0, [0.0; 2])] {
+        let (mut s, mut z) = (point(), point());
+        s[3..5].copy_from_slice(&point_s);
+        z[3..5].copy_from_slice(&point_z);
+        let (mut all, mut each) = (sevens(10, 4), sevens(10, 4));
+        assert_eq!(scale(&list, &s, &z, &mut all), Ok(Scaled::FalseAt(1)));
+        assert_eq!(scale_each(&list, 2, &s, &z, &mut each), Some(false));
+        assert_eq!(all, each);
+        assert_eq!((&all.w[..3], &all.lambda[..3]), (&[1.0; 3][..], &[1.0, 2.0, 3.0][..]));
+        assert_eq!((all.eta[1], &all.w[3..5], &all.lambda[3..5]), (eta, &w[..], &[7.0; 2][..]));
+        for behind in [&all.w, &all.lambda, &all.u, &all.v].map(|x| &x[5..]).iter().chain(&[&all.eta[2..], &all.d[2..]]) {
+            assert!(behind.iter().all(|&x| x == 7.0));
+        }
+    }
+
+    // the first cone: all is as it was
+    let list = row(&[(SecondOrder, 2), (Nonnegative, 3), (SecondOrder, 5)]);
+    let mut all = sevens(10, 3);
+    assert_eq!(scale(&list, &[1.0; 10], &point(), &mut all), Ok(Scaled::FalseAt(0)));
+    assert_eq!(all, sevens(10, 3));
+}
+
+#[test]
+fn refusals_of_the_whole_scaling() {
+    let refused = |list: &[Cone], n, cones| {
+        let mut all = sevens(n, cones);
+        let told = scale(list, &vec![1.0; n], &vec![1.0; n], &mut all);
+        assert_eq!(all, sevens(n, cones));
+        told
+    };
+    assert_eq!(refused(&row(&[(SecondOrder, 1)]), 1, 1), Err(Refusal::Dimension));
+    assert_eq!(refused(&row(&[(Nonnegative, 1); 257]), 257, 257), Err(Refusal::Size));
+    assert_eq!(refused(&row(&[(Nonnegative, 4096); 17]), 69632, 17), Err(Refusal::Size));
+    let mut list = row(&CONES);
+    list[2].start += 1;
+    assert_eq!(refused(&list, 10, 4), Err(Refusal::Start));
+    let list = row(&CONES);
+    assert_eq!(refused(&list, 9, 4), Err(Refusal::Length));
+    assert_eq!(refused(&list, 10, 5), Err(Refusal::Length));
+    assert_eq!(refused(&[], 0, 1), Err(Refusal::Length));
 }

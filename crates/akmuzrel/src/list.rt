@@ -20,8 +20,9 @@ ghost use Rattle.list_jordan.specs.Jordan.{AffineDsDeed, CircOpDeed, InvCircOpD
 ghost use Rattle.list_step.specs.Step.{StepLengthDeed};
 ghost use Rattle.list_products.specs.Product.{MulWDeed, MulWinvDeed};
 ghost use Rattle.list_standing.specs.Standing.{StandingDeed};
+ghost use Rattle.whole_scaling.specs.List.{ListUpdateScaling};
 ghost use Rattle.whole_step.specs.List.{ListStepLength};
-ghost use Rattle.codes.specs.Code.{real, whole, export, Values, Exported};
+ghost use Rattle.codes.specs.Code.{real, whole, export, Values, ScaledValues, Exported};
 
 #[no_mangle]
 pub extern "C" fn akm_list_margins(
@@ -325,6 +326,33 @@ pub extern "C" fn akm_list_standing(
 {
     let p = records::place_of(list, k);
     codes::stands(list_standing::standing_at(p, z), standing)
+}
+
+#[no_mangle]
+pub extern "C" fn akm_whole_update_scaling(
+    list: &[[usize; 3]],
+    s: &[f64],
+    z: &[f64],
+    w: &mut [f64],
+    lambda: &mut [f64],
+    u: &mut [f64],
+    v: &mut [f64],
+    eta: &mut [f64],
+    d: &mut [f64],
+    truth: &mut u8,
+    cone: &mut usize,
+) -> u8
+    ensures { λ r. ⌜ export r (whole (now (truth .exit)) ∷ whole (now (cone .exit)) ∷ []) (now (w .exit) ⨾ now (lambda .exit) ⨾ now (u .exit) ⨾ now (v .exit) ⨾ now (eta
+        .exit) ⨾ now (d .exit) ⨾ tt)
+        ≡ Exported (ScaledValues (now (cone .entry))) (whole (now (truth .entry)) ∷ whole (now (cone .entry)) ∷ []) (ListUpdateScaling (Cones (now (list
+        .entry))) (now (s .entry)) (now (z .entry)) (now (w .entry)) (now (lambda .entry)) (now (u .entry)) (now (v .entry)) (now (eta .entry)) (now (d
+        .entry))) ⌝ }
+{
+    codes::scalings(
+        records_scaling::list_update_scaling(list, s, z, w, lambda, u, v, eta, d),
+        truth,
+        cone,
+    )
 }
 
 #[no_mangle]

@@ -3,6 +3,7 @@ use answers::Answer;
 use answers::Margins;
 use answers::Number;
 use answers::Scaling;
+use answers::Scalings;
 use answers::Square;
 use answers::Standing;
 use answers::Stands;
@@ -73,6 +74,22 @@ pub fn scaling(x: Scaling) {
             small(if t { 1 } else { 0 });
         }
         Scaling::Refused(no) => refusal(no),
+    }
+}
+
+// Of a false the cone's index too.
+pub fn scalings(x: Scalings) {
+    match x {
+        Scalings::AllTrue => {
+            refusal(0);
+            small(1);
+        }
+        Scalings::FalseAt(k) => {
+            refusal(0);
+            small(0);
+            small(k as u64);
+        }
+        Scalings::Refused(no) => refusal(no),
     }
 }
 

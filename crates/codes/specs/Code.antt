@@ -4,7 +4,7 @@ use Prim.Native.Nat.{ℕ}
 use mathlib.Core.Bool.{cond}
 use mathlib.Core.List.{List, [], _∷_}
 use lib.Ieee.{Float}
-use Rattle.answers.specs.Outcome.{Reply, done, margins, truth, number, lengths, stands, Ruling, gives, refuses, Outcome}
+use Rattle.answers.specs.Outcome.{Reply, done, margins, truth, number, lengths, stands, Scaled, all-true, false-at, Ruling, gives, refuses, Outcome}
 use Rattle.answers.specs.declared.Standing.{Standing}
 use Rattle.answers.specs.declared.Standing.the-variants.{Inside, Edge, Outside, Mirrored, NotNumber}
 
@@ -29,6 +29,11 @@ Values (truth t) = whole (cond t 1 0) ∷ []
 Values (number x) = real x ∷ []
 Values (lengths z s) = real z ∷ real s ∷ []
 Values (stands x) = whole (StandingNumber x) ∷ []
+
+-- those of a whole list's scaling (document 02, item 1): a true leaves the lent index, `cone`, as it was
+unfoldable pub ScaledValues : ℕ → Scaled → List Value
+ScaledValues cone all-true = whole 1 ∷ whole cone ∷ []
+ScaledValues cone (false-at k) = whole 0 ∷ whole k ∷ []
 
 -- the number that is returned, and what the lent numbers hold
 pub record Report : Type 0 where

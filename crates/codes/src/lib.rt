@@ -4,14 +4,15 @@ use answers::Answer;
 use answers::Margins;
 use answers::Number;
 use answers::Scaling;
+use answers::Scalings;
 use answers::Standing;
 use answers::Stands;
 use answers::Step;
 use answers::Steps;
 ghost use mathlib.Core.Path.{_≡_};
 ghost use mathlib.Core.List.{[], _∷_};
-ghost use Rattle.answers.specs.Outcome.{ofAnswer, ofMargins, ofScaling, ofNumber, ofStep, ofSteps, ofStands};
-ghost use Rattle.codes.specs.Code.{real, whole, StandingNumber, Values, Reported, report};
+ghost use Rattle.answers.specs.Outcome.{ofAnswer, ofMargins, ofScaling, ofScalings, ofNumber, ofStep, ofSteps, ofStands};
+ghost use Rattle.codes.specs.Code.{real, whole, StandingNumber, Values, ScaledValues, Reported, report};
 
 pub fn answer(a: Answer) -> u8
     ensures { λ r. ⌜ report r [] ≡ Reported Values [] (ofAnswer a) ⌝ }
@@ -45,6 +46,25 @@ pub fn scaling(s: Scaling, truth: &mut u8) -> u8
             0
         }
         Scaling::Refused(no) => no,
+    }
+}
+
+// The cone's index is told of a false alone.
+pub fn scalings(x: Scalings, truth: &mut u8, cone: &mut usize) -> u8
+    ensures { λ r. ⌜ report r (whole (now (truth .exit)) ∷ whole (now (cone .exit)) ∷ [])
+        ≡ Reported (ScaledValues (now (cone .entry))) (whole (now (truth .entry)) ∷ whole (now (cone .entry)) ∷ []) (ofScalings x) ⌝ }
+{
+    match x {
+        Scalings::AllTrue => {
+            *truth = 1;
+            0
+        }
+        Scalings::FalseAt(k) => {
+            *truth = 0;
+            *cone = k;
+            0
+        }
+        Scalings::Refused(no) => no,
     }
 }
 

@@ -2,7 +2,7 @@
 -- all stays. Assumes nothing.
 use Prim.Native.Nat.{ℕ, zero, suc, _+_, _≤_}
 use native.Mathlib.Omega.{arith}
-use mathlib.Core.Path.{_≡_, refl, ap, _∙_}
+use mathlib.Core.Path.{_≡_, refl, sym, ap, _∙_}
 use mathlib.Core.List.{List, [], _∷_, _++_}
 use mathlib.Core.Logic.{_⊎_, inl, inr}
 use lib.ListN.{length, length-set}
@@ -11,8 +11,10 @@ use Rattle.answers.specs.Refusal.{_⊳_, Unlike}
 use Rattle.answers.specs.Outcome.{refuses, Call, Gives}
 use Rattle.conelist.specs.declared.Kind.{Kind}
 use Rattle.conelist.specs.declared.Place.{Place}
-use Rattle.conelist.specs.Layout.{Dim, BlockDim, Carried, Misplaced, AllFit, Fits}
-use Rattle.conecalls.specs.Deed.{Blank, Buffer, per-entry, per-cone, per-block, Whole, Range, Tuple, Lengths, Tests, Wide, Own, Back, Owns, Backs, Deed, Ruled, Later, First, Refused, Comes, Fitting}
+use Rattle.answers.proofs.Laws.{and-more}
+use Rattle.conelist.specs.Layout.{Dim, BlockDim, Carried, Misplaced, Spot, AllFit, Ready, Fits}
+use Rattle.conelist.proofs.Placed.{open-at}
+use Rattle.conecalls.specs.Deed.{Blank, Buffer, per-entry, per-cone, per-block, Whole, Range, Tuple, Lengths, Tests, Wide, Own, Back, Owns, Backs, Deed, Ruled, Later, First, Refused, Comes, Fitting, Fitted, Keeps}
 use Rattle.conecalls.proofs.Parts.{length-part, length-put, part-put, part-put-before, part-put-behind}
 
 -- ---- one buffer
@@ -98,3 +100,44 @@ comes-refused p d ys xs n e =
     let no : Refused p d (Lengths (d .writes) ys) (Lengths (d .reads) xs) ws rs ≡ suc n = ap (λ m. First (m ⊳ Misplaced p) rest) e ∙ first-refused n rest in
     let does : Gives (d .Replies) (Tuple Range (d .writes)) = Ruled d (p .kind) ws rs in
     ap (λ m. Call m (does .reply) ys (Backs p (d .writes) ys (does .news))) no
+
+-- ---- a call leaves the lengths of what it is lent
+
+module _ (p : Place) (here : Ready p) where
+  inside : (b : Buffer) (y : Whole b) → length y ≡ Wide p b → Start p b + Long (p .kind) b ≤ length y
+  inside (per-entry e) y f = omega (arith, here .inside)
+  inside (per-cone e) y f = omega (arith, here .named)
+  inside (per-block e) y f = omega (arith, here .block-inside)
+
+  owns-fit : (bs : List Buffer) (ys : Tuple Whole bs) → Fits (Tests p bs (Lengths bs ys)) → Fitted (p .kind) bs (Owns p bs ys)
+  owns-fit [] ys f = tt
+  owns-fit (b ∷ bs) ys f = (own-fits p b (ys .0) (inside b (ys .0) (f .0)), owns-fit bs (ys .1) (f .1))
+
+  backs-long : (bs : List Buffer) (ys : Tuple Whole bs) (news : Tuple Range bs) → Fits (Tests p bs (Lengths bs ys)) → Fitted (p .kind) bs news → Lengths bs (Backs p bs ys news) ≡ Lengths bs ys
+  backs-long [] ys news f g = refl
+  backs-long (b ∷ bs) ys news f g =
+      and-more (length-back p b (ys .0) (news .0) (record { full = f .0; inside = inside b (ys .0) (f .0); long = g .0 })) (backs-long bs (ys .1) (news .1) (f .1) (g .1))
+
+pub lengths-kept : (p : Place) (d : Deed) → Keeps d → (ys : Tuple Whole (d .writes)) (xs : Tuple Whole (d .reads)) → Lengths (d .writes) (Comes p d ys xs .holds) ≡ Lengths (d .writes) ys
+unfolding Call
+lengths-kept p d keeps ys xs = go (Refused p d (Lengths (d .writes) ys) (Lengths (d .reads) xs) ws rs) refl
+  where
+    ws : Tuple Range (d .writes)
+    ws = Owns p (d .writes) ys
+
+    rs : Tuple Range (d .reads)
+    rs = Owns p (d .reads) xs
+
+    ms : List (ℕ × ℕ)
+    ms = Tests p (d .writes) (Lengths (d .writes) ys)
+
+    ns : List (ℕ × ℕ)
+    ns = Tests p (d .reads) (Lengths (d .reads) xs)
+
+    go : (n : ℕ) → Refused p d (Lengths (d .writes) ys) (Lengths (d .reads) xs) ws rs ≡ n → Lengths (d .writes) (Call n (Ruled d (p .kind) ws rs .reply) ys (Backs p (d .writes) ys (Ruled d (p .kind) ws rs .news)) .holds) ≡ Lengths (d .writes) ys
+    go zero e =
+        let ready = open-at p (ms ++ ns) 0 (sym (clear-first (Spot p) (Unlike (AllFit (ms ++ ns))) (d .early (p .kind)) (Later d (p .kind) ws rs) e)) refl in
+        let fits = fits-first ms ns (ready .same) in
+        let here = ready .here in
+        backs-long p here (d .writes) ys _ (fits .0) (keeps (p .kind) (here .enough) ws (owns-fit p here (d .writes) ys (fits .0)) rs (owns-fit p here (d .reads) xs (fits .1)))
+    go (suc n) e = refl

@@ -41,6 +41,10 @@ abbrev pub Before : (Kind → ℕ) → List Cone → ℕ → ℕ
 Before size cs zero = 0
 Before size cs (suc k) = Before size cs k + size (KindAt cs k)
 
+-- all entries together
+abbrev pub Entries : List Cone → ℕ
+Entries cs = Before Dim cs (length cs)
+
 -- ---- refusals 1 to 4
 
 -- of a record behind `total` entries. 1: its dimension is outside its range; 3: its start does not tile ("the first is 0, each next is the
@@ -52,6 +56,10 @@ BadRecord total c = BadDimension (LeastDim (c .kind)) (Dim (c .kind)) ⊳ cond (
 abbrev pub BadRecords : ℕ → List Cone → ℕ
 BadRecords total [] = 0
 BadRecords total (c ∷ cs) = BadRecord total c ⊳ BadRecords (total + Dim (c .kind)) cs
+
+-- "Rank: cone count (2); then record by record ..": of a call that names no single cone, so there is no 4
+abbrev pub BadList : List Cone → ℕ
+BadList cs = cond (ltb 256 (length cs)) 2 0 ⊳ BadRecords 0 cs
 
 -- "Rank: cone count (2); then record by record ..; then 4": over 256 cones; the records; the cone named is not in the list
 abbrev pub BadPlace : List Cone → ℕ → ℕ

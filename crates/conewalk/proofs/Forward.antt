@@ -59,6 +59,8 @@ use Rattle.answers.proofs.Margins as Margins
 use Rattle.answers.proofs.Margins.Laws as Margins′
 use Rattle.answers.proofs.Scaling as Scaling
 use Rattle.answers.proofs.Scaling.Laws as Scaling′
+use Rattle.answers.proofs.Scalings as Scalings
+use Rattle.answers.proofs.Scalings.Laws as Scalings′
 use Rattle.answers.proofs.Steps as Steps
 use Rattle.answers.proofs.Steps.Laws as Steps′
 use Rattle.answers.proofs.Stands as Stands
@@ -191,6 +193,9 @@ module _ {M : Type 1} (𝓤 : URA M) (H : Heap 𝓤) (A : Atoms 𝓤) (W : Given
   abbrev pub known-scaling : Known 𝓤 H A Scaling.the-row
   known-scaling = known-enum 𝓤 H A W Scaling.the-type Scaling′.the-laws tt
 
+  abbrev pub known-scalings : Known 𝓤 H A Scalings.the-row
+  known-scalings = known-enum 𝓤 H A W Scalings.the-type Scalings′.the-laws tt
+
   abbrev pub known-steps : Known 𝓤 H A Steps.the-row
   known-steps = known-enum 𝓤 H A W Steps.the-type Steps′.the-laws tt
 
@@ -218,7 +223,7 @@ module _ {M : Type 1} (𝓤 : URA M) (H : Heap 𝓤) (A : Atoms 𝓤) (W : Given
   abbrev pub known-f64-ref-mut : (j : ℕ) (κ : Lft) → Known 𝓤 H A (MutRef (named j) κ f64)
   known-f64-ref-mut j κ = known-ref-mut 𝓤 H A W (named j) κ f64
 
-pub ruleset knowns = (known-list, known-place, known-answer, known-margins, known-scaling, known-steps, known-stands, known-square, known-usize, known-f64, known-bool, known-floats, known-floats-mut, known-f64-ref, known-f64-ref-mut)
+pub ruleset knowns = (known-list, known-place, known-answer, known-margins, known-scaling, known-scalings, known-steps, known-stands, known-square, known-usize, known-f64, known-bool, known-floats, known-floats-mut, known-f64-ref, known-f64-ref-mut)
 
 module _ {M : Type 1} (𝓤 : URA M) (H : Heap 𝓤) (𝓜 : Model 𝓤 H) (𝓖 : GhostRules 𝓤 H) (𝓡 : Running 𝓤 H 𝓜) where
   abbrev A : Atoms 𝓤

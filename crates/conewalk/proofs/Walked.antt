@@ -151,3 +151,20 @@ place-of-asks cs k few i p l h = record { counted = omega (arith, h .counted); h
 
 pub place-of-closes : (cs : List Cone) (k : ℕ) {r : Place} → r ≡ PlaceClosing (OverRecords PlaceFurther cs (PlaceOpening (length cs) k)) → r ≡ PlaceOf cs k
 place-of-closes cs k e = e ∙ walked cs k
+
+-- ---- and for `first_place`: the same, of cone 0
+
+abbrev pub first-place-holds : List Cone → ℕ → Place → Type 0
+first-place-holds cs = place-of-holds cs 0
+
+pub first-place-start : (cs : List Cone) → Along 0 (PlaceOpening (length cs) 0)
+first-place-start cs = place-of-start cs 0
+
+pub first-place-turn : (cs : List Cone) (i : ℕ) (p : Place) → i < length cs → Along i p → Along (i + 1) (PlaceFurther p (getD cs i noCone))
+first-place-turn cs = place-of-turn cs 0
+
+pub first-place-asks : (cs : List Cone) → length cs < 2 ^ 64 → (i : ℕ) (p : Place) → i < length cs → Along i p → Going p
+first-place-asks cs = place-of-asks cs 0
+
+pub first-place-closes : (cs : List Cone) {r : Place} → r ≡ PlaceClosing (OverRecords PlaceFurther cs (PlaceOpening (length cs) 0)) → r ≡ PlaceOf cs 0
+first-place-closes cs e = place-of-closes cs 0 e

@@ -17,3 +17,16 @@ pub fn place_of(list: &[Cone], k: usize) -> Place
     }
     place_turns::place_closing(p)
 }
+
+// The list's first cone, for a call that goes through all of them: where the list has none, that is 4, which such a call leaves out.
+pub fn first_place(list: &[Cone]) -> Place
+    ensures { λ r. ⌜ r ≡ PlaceOf (now (list .entry)) 0 ⌝ }
+{
+    let mut p = place_turns::first_opening(list.len());
+    let mut j: usize = 0;
+    while j < list.len() {
+        p = place_turns::place_further(p, list[j]);
+        j += 1;
+    }
+    place_turns::place_closing(p)
+}

@@ -1,2 +1,3 @@
--- `Unique`: a contract leaves one result.
+-- `Laws`: where the lengths fit. `Unique`: a contract leaves one result.
+pub mod Laws
 pub mod Unique

@@ -9,9 +9,9 @@ ghost use lib.ListN.{length};
 ghost use Rattle.answers.specs.Refusal.{Fit};
 ghost use Rattle.answers.specs.Outcome.{truth, tells, ofScaling, _⨾_};
 ghost use Rattle.soc_scaling.specs.Scaling.{Stored};
-ghost use Rattle.conelist.specs.Layout.{LeastDim, Open};
+ghost use Rattle.conelist.specs.Layout.{LeastDim, Fits, Open};
 ghost use Rattle.conecalls.specs.Deed.{At, WorksAt};
-ghost use Rattle.list_scaling.specs.Scaling.{KindScaling, UpdateScalingDeed};
+ghost use Rattle.list_scaling.specs.Scaling.{KindScaling, UpdateScalingDeed, LengthsAt};
 
 // A nonnegative cone uses no u, v, η, d: they stay.
 fn kind_scaling(
@@ -76,6 +76,31 @@ fn scaling_in(
         &mut eta[k],
         &mut d[k],
     )
+}
+
+// The call, where the lengths are known to fit: a walk over the list tests them once.
+pub fn update_scaling_fit(
+    p: Place,
+    s: &[f64],
+    z: &[f64],
+    w: &mut [f64],
+    lambda: &mut [f64],
+    u: &mut [f64],
+    v: &mut [f64],
+    eta: &mut [f64],
+    d: &mut [f64],
+) -> Scaling
+    requires { ⌜ Fits (LengthsAt p (now s) (now z) (now w) (now lambda) (now u) (now v) (now eta) (now d)) ⌝ }
+    ensures { λ r. ⌜ tells (ofScaling r)
+        (now (w .exit) ⨾ now (lambda .exit) ⨾ now (u .exit) ⨾ now (v .exit) ⨾ now (eta .exit) ⨾ now (d .exit) ⨾ tt)
+        ≡ At p UpdateScalingDeed (now (w .entry)) (now (lambda .entry)) (now (u .entry)) (now (v .entry)) (now (eta .entry)) (now (d .entry))
+        (now (s .entry)) (now (z .entry)) ⌝ }
+{
+    let no = conelist::spot(p);
+    if no != 0 {
+        return Scaling::Refused(no);
+    }
+    Scaling::Truth(scaling_in(p, s, z, w, lambda, u, v, eta, d))
 }
 
 pub fn update_scaling_at(

@@ -10,14 +10,15 @@ use Rattle.sequences.specs.Rearranged.{Naming, Rearranged}
 use Rattle.sequences.proofs.Local as local
 use Rattle.sequences.proofs.Contract.{as-contracted}
 use Rattle.orders.specs.Calls.{Operation, margins, scaled-unit-shift, unit-initialization, set-identity-scaling, update-scaling, get-hs, square-hs, mul-hs, affine-ds, combined-ds-shift, ds-from-dz-offset, step-length, mul-w, mul-winv, circ-op, inv-circ-op, lambda-inv-circ-op, standing, DeedOf, Request, TaskOf, Names, Meets, RunAll}
+use Rattle.list_scaling.proofs.Laws as scaled
 use Rattle.orders.proofs.Lengths as lengths
 
 -- each rule gives ranges of the right lengths
-keeps : (c : Operation) → Keeps (DeedOf c)
+pub keeps : (c : Operation) → Keeps (DeedOf c)
 keeps margins = λ kind h ws f rs g. tt
 keeps unit-initialization = lengths.unit-initialization
 keeps set-identity-scaling = lengths.set-identity-scaling
-keeps update-scaling = lengths.update-scaling
+keeps update-scaling = scaled.keeps
 keeps get-hs = lengths.get-hs
 keeps square-hs = λ kind h ws f rs g. tt
 keeps mul-hs = lengths.mul-hs

@@ -2,12 +2,10 @@
 use Prim.Native.Nat.{ℕ, _≤_}
 use native.Mathlib.Omega.{arith}
 use mathlib.Core.Path.{_≡_, ap, _∙_}
-use mathlib.Core.List.{List}
 use lib.ListN.{length}
 use lib.Ieee.{Float}
 use Rattle.soc_units.proofs.Laws.{length-unit-shift, length-unit-vector}
 use Rattle.soc_identity.proofs.Laws.{lengths-identity}
-use Rattle.soc_scaling.proofs.Laws.{lengths-update-scaling}
 use Rattle.answers.specs.Refusal.{BlockLength}
 use Rattle.soc_blocks.proofs.Laws.{hs-long}
 use Rattle.soc_products.proofs.Laws.{length-mul-w, length-mul-winv}
@@ -16,7 +14,6 @@ use Rattle.soc_offset.proofs.Laws.{length-offset}
 use Rattle.soc_jordan.proofs.Laws.{length-circ}
 use Rattle.soc_inverse.proofs.Laws.{length-inv-circ}
 use Rattle.nn_units.proofs.Laws as unit
-use Rattle.nn_scaling.proofs.Laws as scale
 use Rattle.nn_blocks.proofs.Laws as block
 use Rattle.nn_products.proofs.Laws as entrywise
 use Rattle.nn_mul_hs.proofs.Laws as times
@@ -32,7 +29,6 @@ use Rattle.conecalls.specs.Deed.{Keeps}
 use Rattle.list_shifts.specs.Shift.{KindScaledUnitShift, ScaledUnitShiftDeed, KindDsFromDzOffset, DsFromDzOffsetDeed, KindCombinedDsShift, CombinedDsShiftDeed}
 use Rattle.list_units.specs.Units.{KindUnit, UnitInitializationDeed}
 use Rattle.list_identity.specs.Identity.{KindSetIdentityScaling, SetIdentityScalingDeed}
-use Rattle.list_scaling.specs.Scaling.{KindScaling, UpdateScalingDeed}
 use Rattle.list_blocks.specs.Block.{KindHs, GetHsDeed}
 use Rattle.list_mul_hs.specs.Block.{KindMulHs, MulHsDeed}
 use Rattle.list_jordan.specs.Jordan.{KindCircOp, CircOpDeed, KindInvCircOp, InvCircOpDeed, KindLambdaInvCircOp, LambdaInvCircOpDeed, KindAffineDs, AffineDsDeed}
@@ -60,11 +56,6 @@ pub set-identity-scaling : Keeps SetIdentityScalingDeed
 unfolding KindSetIdentityScaling
 set-identity-scaling (Nonnegative n) h ws f rs g = (unit.length-unit _ ∙ f .0, f .1)
 set-identity-scaling (SecondOrder n) h ws f rs g = lengths-identity n (some h) _ _ _ _ (f .0) (f .1 .0) (f .1 .1 .0)
-
-pub update-scaling : Keeps UpdateScalingDeed
-unfolding KindScaling
-update-scaling (Nonnegative n) h ws f rs g = (rw (scale.length-w, g .0), (rw (scale.length-lambda, g .0), f .1 .1))
-update-scaling (SecondOrder n) h ws f rs g = lengths-update-scaling n (some h) _ _ _ _ _ _ _ _ (g .0) (g .1 .0) (f .0) (f .1 .0) (f .1 .1 .0) (f .1 .1 .1 .0)
 
 pub get-hs : Keeps GetHsDeed
 unfolding KindHs

@@ -1,6 +1,7 @@
 -- `Lengths`, `Demand3`: demand 3's first half, for the public calls. `Sides`: its second half, the step over a list. `Needed`: the condition there
--- is needed.
+-- is needed. `Scaled`: the scaling of a whole list, and its single scalings.
 pub mod Lengths
 pub mod Demand3
 pub mod Sides
 pub mod Needed
+pub mod Scaled

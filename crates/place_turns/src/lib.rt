@@ -108,3 +108,10 @@ pub fn place_closing(p: Place) -> Place
     }
     if p.index < p.count { p } else { alone(4) }
 }
+
+// The walk for the first cone.
+pub fn first_opening(cones: usize) -> Place
+    ensures { λ r. ⌜ r ≡ PlaceOpening cones 0 ⌝ }
+{
+    place_opening(cones, 0)
+}

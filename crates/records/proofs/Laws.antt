@@ -1,4 +1,4 @@
--- How the walk over the row goes: behind i records it stands where the walk over document 01's list does. Assumes nothing.
+-- How a walk over a row as C has it goes: behind i records it stands where the walk over document 01's list does. One law for every turn. Assumes nothing.
 use Prim.Native.Nat.{ℕ, suc, _+_, _≤_, _<_, _^_, zero-le}
 use native.Mathlib.Omega.{arith}
 use native.Mathlib.Numerals.{add-one}
@@ -14,33 +14,49 @@ use Rattle.place_turns.specs.Walk.{PlaceOpening, PlaceFurther, PlaceClosing, Go
 use Rattle.conewalk.proofs.Walked.{Along, along-start, along-step, walked}
 use Rattle.records.specs.Record.{ConeOf, Cones}
 
-pub record PlaceBehind (list : List (List ℕ)) (k i : ℕ) (p : Place) : Type 0 where
-  pub within : i ≤ length list
-  pub along : Along i p
-  pub left : OverRecords PlaceFurther (Cones (drop i list)) p ≡ OverRecords PlaceFurther (Cones list) (PlaceOpening (length list) k)
-
 pub length-cones : (list : List (List ℕ)) → length (Cones list) ≡ length list
 length-cones [] = refl
 length-cones (r ∷ list) = ap suc (length-cones list)
 
-pub behind-start : (list : List (List ℕ)) (k : ℕ) {p : Place} → p ≡ PlaceOpening (length list) k → PlaceBehind list k 0 p
-behind-start list k e = record { within = zero-le; along = rw e (along-start (length list) k); left = ap (OverRecords PlaceFurther (Cones list)) e }
+-- ---- a walk by any turn, from any start
 
-pub behind-going : {list : List (List ℕ)} {k i : ℕ} {p : Place} → PlaceBehind list k i p → i < length list → length list < 2 ^ 64 → Going p
-behind-going h l room = record { counted = omega (arith, h .along .counted); held = h .along .held; few = h .along .few }
+module _ {Z : Type 0} (turn : Z → Cone → Z) (list : List (List ℕ)) (start : Z) where
+  -- behind i records it stands where, over the records that are left, it comes to what the whole walk does
+  pub record Behind (i : ℕ) (t : Z) : Type 0 where
+    pub within : i ≤ length list
+    pub left : OverRecords turn (Cones (drop i list)) t ≡ OverRecords turn (Cones list) start
 
-pub behind-step : {list : List (List ℕ)} {k i : ℕ} {p p′ : Place} {c : Cone} (d : List ℕ) → PlaceBehind list k i p → i < length list → c ≡ ConeOf (getD list i d) → p′ ≡ PlaceFurther p c → PlaceBehind list k (i + 1) p′
-behind-step {list} {k} {i} {p} {p′} {c} d h l e f =
-    record {
-      within = omega arith;
-      along = rw f (along-step i p c (h .along));
-      left =
-          ap (OverRecords PlaceFurther (Cones (drop (i + 1) list))) (f ∙ ap (PlaceFurther p) e) ∙ ap (λ (j : ℕ). OverRecords PlaceFurther (Cones (drop j list)) (PlaceFurther p (ConeOf (getD list i d)))) (add-one i)
-          ∙ ap (λ (rs : List (List ℕ)). OverRecords PlaceFurther (Cones rs) p) (sym (drop-cons list i d l)) ∙ h .left;
-    }
+module _ {Z : Type 0} {turn : Z → Cone → Z} {list : List (List ℕ)} {start : Z} where
+  pub behind-start : {t : Z} → t ≡ start → Behind turn list start 0 t
+  behind-start e = record { within = zero-le; left = ap (OverRecords turn (Cones list)) e }
 
-pub behind-end : {list : List (List ℕ)} {k i : ℕ} {p r : Place} → PlaceBehind list k i p → length list ≤ i → r ≡ PlaceClosing p → r ≡ PlaceOf (Cones list) k
-behind-end {list} {k} {i} {p} h l e =
-    let at-end : p ≡ OverRecords PlaceFurther (Cones list) (PlaceOpening (length (Cones list)) k) =
-    ap (λ (rs : List (List ℕ)). OverRecords PlaceFurther (Cones rs) p) (sym (drop-of-length-le list {i = i} l)) ∙ h .left ∙ ap (λ (n : ℕ). OverRecords PlaceFurther (Cones list) (PlaceOpening n k)) (sym (length-cones list)) in
-    e ∙ ap PlaceClosing at-end ∙ walked (Cones list) k
+  pub behind-turn : {i : ℕ} {t t′ : Z} {c : Cone} (d : List ℕ) → Behind turn list start i t → i < length list → c ≡ ConeOf (getD list i d) → t′ ≡ turn t c → Behind turn list start (i + 1) t′
+  behind-turn {i} {t} {t′} {c} d h l e f =
+      record {
+        within = omega arith;
+        left =
+            ap (OverRecords turn (Cones (drop (i + 1) list))) (f ∙ ap (turn t) e) ∙ ap (λ (j : ℕ). OverRecords turn (Cones (drop j list)) (turn t (ConeOf (getD list i d)))) (add-one i)
+            ∙ ap (λ (rs : List (List ℕ)). OverRecords turn (Cones rs) t) (sym (drop-cons list i d l)) ∙ h .left;
+      }
+
+  pub behind-end : {i : ℕ} {t : Z} → Behind turn list start i t → length list ≤ i → t ≡ OverRecords turn (Cones list) start
+  behind-end {i} {t} h l = ap (λ (rs : List (List ℕ)). OverRecords turn (Cones rs) t) (sym (drop-of-length-le list {i = i} l)) ∙ h .left
+
+-- ---- the walk that finds a place: its sums stay small too
+
+pub record PlaceBehind (list : List (List ℕ)) (k i : ℕ) (p : Place) : Type 0 where
+  pub behind : Behind PlaceFurther list (PlaceOpening (length list) k) i p
+  pub along : Along i p
+
+pub place-start : (list : List (List ℕ)) (k : ℕ) {p : Place} → p ≡ PlaceOpening (length list) k → PlaceBehind list k 0 p
+place-start list k e = record { behind = behind-start e; along = rw e (along-start (length list) k) }
+
+pub place-going : {list : List (List ℕ)} {k i : ℕ} {p : Place} → PlaceBehind list k i p → i < length list → length list < 2 ^ 64 → Going p
+place-going h l room = record { counted = omega (arith, h .along .counted); held = h .along .held; few = h .along .few }
+
+pub place-turn : {list : List (List ℕ)} {k i : ℕ} {p p′ : Place} {c : Cone} (d : List ℕ) → PlaceBehind list k i p → i < length list → c ≡ ConeOf (getD list i d) → p′ ≡ PlaceFurther p c → PlaceBehind list k (i + 1) p′
+place-turn {i = i} {p = p} {c = c} d h l e f = record { behind = behind-turn d (h .behind) l e f; along = rw f (along-step i p c (h .along)) }
+
+pub place-end : {list : List (List ℕ)} {k i : ℕ} {p r : Place} → PlaceBehind list k i p → length list ≤ i → r ≡ PlaceClosing p → r ≡ PlaceOf (Cones list) k
+place-end {list} {k} h l e =
+    e ∙ ap PlaceClosing (behind-end (h .behind) l ∙ ap (λ (n : ℕ). OverRecords PlaceFurther (Cones list) (PlaceOpening n k)) (sym (length-cones list))) ∙ walked (Cones list) k

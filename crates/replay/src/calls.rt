@@ -364,15 +364,56 @@ fn nonnegative_scaling(words: &[u64], held: &[f64]) {
     slices::told(words, own4, 4);
 }
 
-fn list_scaling(c: Case, words: &[u64], held: &[f64]) {
+// Of one cone of a list, or of the whole list.
+fn scaled(
+    c: Case,
+    row: &[[usize; 3]],
+    s: &[f64],
+    z: &[f64],
+    w: &mut [f64],
+    lambda: &mut [f64],
+    u: &mut [f64],
+    v: &mut [f64],
+    eta: &mut [f64],
+    d: &mut [f64],
+) {
+    if c.call == 0x313 {
+        case_answers::scalings(records_scaling::list_update_scaling(
+            row,
+            s,
+            z,
+            w,
+            lambda,
+            u,
+            v,
+            eta,
+            d,
+        ));
+    } else {
+        case_answers::scaling(list_scaling::update_scaling_at(
+            c.place,
+            s,
+            z,
+            w,
+            lambda,
+            u,
+            v,
+            eta,
+            d,
+        ));
+    }
+}
+
+fn list_scaling(c: Case, row: &[[usize; 3]], words: &[u64], held: &[f64]) {
     let mut own3 = slices::numbers(words);
     let mut own4 = own3;
     let mut own5 = own3;
     let mut own6 = own3;
     let mut own7 = own3;
     let mut own8 = own3;
-    case_answers::scaling(list_scaling::update_scaling_at(
-        c.place,
+    scaled(
+        c,
+        row,
         slices::part(words, held, 1),
         slices::part(words, held, 2),
         slices::part_mut(words, &mut own3, 3),
@@ -381,7 +422,7 @@ fn list_scaling(c: Case, words: &[u64], held: &[f64]) {
         slices::part_mut(words, &mut own6, 6),
         slices::part_mut(words, &mut own7, 7),
         slices::part_mut(words, &mut own8, 8),
-    ));
+    );
     slices::tell(words, held, 1);
     slices::tell(words, held, 2);
     slices::told(words, own3, 3);
@@ -411,13 +452,13 @@ fn writes_three(c: Case, words: &[u64], held: &[f64]) {
     }
 }
 
-fn writes_most(c: Case, words: &[u64], held: &[f64]) {
+fn writes_most(c: Case, row: &[[usize; 3]], words: &[u64], held: &[f64]) {
     let call = c.call;
     match call {
         0x103 => second_order_identity(words, held),
         0x303 => list_identity(c, words),
         0x104 => second_order_scaling(words, held),
-        _ => list_scaling(c, words, held),
+        _ => list_scaling(c, row, words, held),
     }
 }
 
@@ -448,7 +489,7 @@ fn run(c: Case, row: &[[usize; 3]], words: &[u64], held: &[f64]) {
             nonnegative_scaling(words, held)
         },
         3 => writes_three(c, words, held),
-        _ => writes_most(c, words, held),
+        _ => writes_most(c, row, words, held),
     }
 }
 
@@ -457,7 +498,7 @@ pub fn made(c: Case, row: &[[usize; 3]], words: &[u64]) {
     let held = slices::numbers(words);
     run(c, row, words, &held);
     // an update of a scaling has told all its slices, any other call those that it writes, which come first
-    let told = if c.call % 256 == 4 {
+    let told = if (c.call % 256 == 4) | (c.call == 0x313) {
         c.slices
     } else {
         c.written

@@ -112,8 +112,8 @@ const OF_LIST: [usize; 22] = [
     0x310, // inv_circ_op
     0x310, // lambda_inv_circ_op
     0x100, // standing
-    0x400, // step
-    0xf00, // residual
+    0x400, // the whole list's step_length
+    0x860, // the whole list's update_scaling
     0xf00, // residual_shifted
     0xf00, // sqrt_residual
 ];

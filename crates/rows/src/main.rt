@@ -1,9 +1,10 @@
 // Rows of cones that the program makes itself, and what calls on them come to: where a row is taken and where it is refused, each buffer one
-// number too short and too long, the limits of a step, the square block, and the step over a whole list (document 01, "Refusal numbers"). Of
-// our own; nothing is ported.
+// number too short and too long, the limits of a step, the square block, and the step and the scaling over a whole list (document 01, "Refusal
+// numbers"; document 02, item 1). Of our own; nothing is ported.
 use answers::Answer;
 use answers::Margins;
 use answers::Scaling;
+use answers::Scalings;
 use answers::Steps;
 use conelist::Cone;
 use conelist::Kind;
@@ -31,6 +32,17 @@ fn say_scaling(a: Scaling) {
         Scaling::Refused(no) => show::refused(no),
     }
     show::newline();
+}
+
+fn say_scalings(a: Scalings) {
+    match a {
+        Scalings::AllTrue => show::text(b"true"),
+        Scalings::FalseAt(k) => {
+            show::text(b"false at ");
+            show::decimal(k as u64);
+        }
+        Scalings::Refused(no) => show::refused(no),
+    }
 }
 
 fn say_steps(a: Steps) {
@@ -337,6 +349,122 @@ fn nothing() {
     say_steps(local_rows::list_step_in(empty(), 0, &none, &none, &none, &none, 7.0));
 }
 
+// ---- the scaling of the whole list
+
+// Behind the answer, of the first three cones, what eta and the first entries of w hold: 9 and 7 where they are not written.
+fn scaled(of: &[u8], list: [Cone; 257], cones: usize, s: [f64; 6], z: [f64; 6]) {
+    show::label(of);
+    let mut w = [7.0; 6];
+    let mut lambda = [7.0; 6];
+    let mut u = [7.0; 6];
+    let mut v = [7.0; 6];
+    let mut eta = [9.0; 3];
+    let mut d = [9.0; 3];
+    say_scalings(local_rows::list_scaling_in(
+        list,
+        cones,
+        &s,
+        &z,
+        &mut w,
+        &mut lambda,
+        &mut u,
+        &mut v,
+        &mut eta,
+        &mut d,
+    ));
+    show::text(b" | ");
+    show::number(eta[0]);
+    show::text(b" ");
+    show::number(eta[1]);
+    show::text(b" ");
+    show::number(eta[2]);
+    show::text(b" | ");
+    show::number(w[0]);
+    show::text(b" ");
+    show::number(w[2]);
+    show::text(b" ");
+    show::number(w[4]);
+    show::newline();
+}
+
+fn pairs() -> [Cone; 257] {
+    three(second_order(0, 2), second_order(2, 2), second_order(4, 2))
+}
+
+// (5, 3) lies inside; s (1, 1) gives an early false, s (2, 0) with z (-2, 0) a late one, which writes eta and w.
+fn scaled_lines() {
+    let inside = [5.0, 3.0, 5.0, 3.0, 5.0, 3.0];
+    let early = [5.0, 3.0, 1.0, 1.0, 5.0, 3.0];
+    let late = [5.0, 3.0, 2.0, 0.0, 5.0, 3.0];
+    let turned = [5.0, 3.0, -2.0, 0.0, 5.0, 3.0];
+    scaled(b"list scaling, all true", pairs(), 3, inside, inside);
+    scaled(b"list scaling, early false", pairs(), 3, early, inside);
+    scaled(b"list scaling, late false", pairs(), 3, late, turned);
+    scaled(
+        b"list scaling, a buffer too long",
+        pairs(),
+        2,
+        inside,
+        inside,
+    );
+}
+
+fn scaled_edges() {
+    let inside = [5.0, 3.0, 5.0, 3.0, 5.0, 3.0];
+    let first = [1.0, 1.0, 5.0, 3.0, 5.0, 3.0];
+    let last = [5.0, 3.0, 5.0, 3.0, 1.0, 1.0];
+    scaled(
+        b"list scaling, false at the first",
+        pairs(),
+        3,
+        first,
+        inside,
+    );
+    scaled(b"list scaling, false at the last", pairs(), 3, last, inside);
+    let short = three(second_order(0, 2), second_order(2, 2), second_order(4, 1));
+    scaled(
+        b"list scaling, dimension 1 at the last",
+        short,
+        3,
+        inside,
+        inside,
+    );
+    let off = three(second_order(0, 2), second_order(2, 2), second_order(5, 2));
+    scaled(
+        b"list scaling, start off at the last",
+        off,
+        3,
+        inside,
+        inside,
+    );
+    scaled(b"list scaling, 257 cones", empty(), 257, inside, inside);
+}
+
+// An empty list answers true.
+fn scaled_nothing(of: &[u8], s: &[f64]) {
+    show::label(of);
+    let none: [f64; 0] = [];
+    let mut w: [f64; 0] = [];
+    let mut lambda: [f64; 0] = [];
+    let mut u: [f64; 0] = [];
+    let mut v: [f64; 0] = [];
+    let mut eta: [f64; 0] = [];
+    let mut d: [f64; 0] = [];
+    say_scalings(local_rows::list_scaling_in(
+        empty(),
+        0,
+        s,
+        &none,
+        &mut w,
+        &mut lambda,
+        &mut u,
+        &mut v,
+        &mut eta,
+        &mut d,
+    ));
+    show::newline();
+}
+
 fn main() {
     taken();
     first_records();
@@ -350,4 +478,9 @@ fn main() {
     steps();
     wholes();
     nothing();
+    scaled_lines();
+    scaled_edges();
+    let none: [f64; 0] = [];
+    scaled_nothing(b"list scaling of no cones", &none);
+    scaled_nothing(b"list scaling of no cones, s one long", &[1.0]);
 }

@@ -56,14 +56,23 @@ module _ (p : Place) (σ τ : Store) (a : Name) (P : Full a → Full a → Type 
       go (yes e) rest = moved e (news .0) (c .0) (f .0)
       go (no n) rest = rest
 
-unpicked : (σ : Store) (a : Name) (bs : List Buffer) (ns : Numbers bs) → Pick a bs ns (Fetch σ bs ns) (σ a) ≡ σ a
-unpicked σ a [] ns = refl
-unpicked σ a (b ∷ bs) ns = go (same-name a (called b (ns .0))) (unpicked σ a bs (ns .1))
+-- a is none of these
+abbrev pub Outside : Name → (bs : List Buffer) → Numbers bs → Type 0
+Outside a [] ns = Unit {0}
+Outside a (b ∷ bs) ns = ¬ (a ≡ called b (ns .0)) × Outside a bs (ns .1)
+
+-- τ's contents put into σ, where they differ in none but these
+pub picked-all : (σ τ : Store) (a : Name) (bs : List Buffer) (ns : Numbers bs) → (Outside a bs ns → σ a ≡ τ a) → Pick a bs ns (Fetch τ bs ns) (σ a) ≡ τ a
+picked-all σ τ a [] ns h = h tt
+picked-all σ τ a (b ∷ bs) ns h = go (same-name a (called b (ns .0))) (picked-all σ τ a bs (ns .1))
   where
-    go : (t : Dec (a ≡ called b (ns .0))) → Pick a bs (ns .1) (Fetch σ bs (ns .1)) (σ a) ≡ σ a
-        → _≡_ {A = Full a} (elim t [ yes e ↦ subst⁻¹ Full e (σ (called b (ns .0))) | no n ↦ Pick a bs (ns .1) (Fetch σ bs (ns .1)) (σ a) ]) (σ a)
-    go (yes e) rest = pathJ (λ c e. subst⁻¹ Full e (σ c) ≡ σ a) (subst⁻¹-refl Full {x = a} (σ a)) e
-    go (no n) rest = rest
+    go : (t : Dec (a ≡ called b (ns .0))) → ((Outside a bs (ns .1) → σ a ≡ τ a) → Pick a bs (ns .1) (Fetch τ bs (ns .1)) (σ a) ≡ τ a)
+        → _≡_ {A = Full a} (elim t [ yes e ↦ subst⁻¹ Full e (τ (called b (ns .0))) | no n ↦ Pick a bs (ns .1) (Fetch τ bs (ns .1)) (σ a) ]) (τ a)
+    go (yes e) rest = pathJ (λ c e. subst⁻¹ Full e (τ c) ≡ τ a) (subst⁻¹-refl Full {x = a} (τ a)) e
+    go (no n) rest = rest (λ o. h (n, o))
+
+unpicked : (σ : Store) (a : Name) (bs : List Buffer) (ns : Numbers bs) → Pick a bs ns (Fetch σ bs ns) (σ a) ≡ σ a
+unpicked σ a bs ns = picked-all σ σ a bs ns (λ o. refl)
 
 same-ruling : {R B : Type 0} (n : ℕ) (v : R) (old new old′ new′ : B) → Call n v old new .ruling ≡ Call n v old′ new′ .ruling
 unfolding Call
@@ -199,7 +208,7 @@ module _ (list : List Cone) where
       same-lengths [] ns = refl
       same-lengths (b ∷ bs) ns = and-more (ap (λ v. v (called b (ns .0)) .long) e) (same-lengths bs (ns .1))
 
-      same-owns : (bs : List Buffer) (ns : Numbers bs) → Owns p bs (Fetch σ bs ns) ≡ Owns p bs (Fetch τ bs ns)
+      pub same-owns : (bs : List Buffer) (ns : Numbers bs) → Owns p bs (Fetch σ bs ns) ≡ Owns p bs (Fetch τ bs ns)
       same-owns [] ns = refl
       same-owns (b ∷ bs) ns = and-more (ap (λ v. v (called b (ns .0)) .part) e) (same-owns bs (ns .1))
 

@@ -5,6 +5,7 @@ use mathlib.Core.List.{List, [], _∷_}
 use lib.ListN.{length, getD}
 use Rattle.vecmath.specs.Vector.{Fold}
 use Rattle.conelist.specs.declared.Cone.{Cone}
+use Rattle.conelist.specs.Layout.{KindAt}
 use Rattle.walks.specs.Records.{noCone, OverRecords}
 
 -- a fold from its first turn on
@@ -17,3 +18,8 @@ pub by-index : {Z : Type 0} (f : Z → Cone → Z) (cs : List Cone) (z : Z) → 
 unfolding Fold
 by-index f [] z = refl
 by-index f (c ∷ cs) z = by-index f cs (f z c) ∙ sym (fold-first (length cs) z (λ k w. f w (getD (c ∷ cs) k noCone)))
+
+pub kind-at : (cs : List Cone) (k : ℕ) → getD cs k noCone .kind ≡ KindAt cs k
+kind-at [] k = refl
+kind-at (c ∷ cs) zero = refl
+kind-at (c ∷ cs) (suc k) = kind-at cs k

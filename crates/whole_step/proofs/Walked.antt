@@ -1,6 +1,5 @@
 -- The walk comes to document 01's list step: record by record it meets the refusals in their rank, or takes each cone's steps. Assumes nothing.
 use Prim.Native.Nat.{ℕ, zero, suc, _+_, _≤_}
-use native.Mathlib.Numerals.{add-one}
 use native.Mathlib.Omega.{arith}
 use native.Mathlib.Nat.{add-zero, zero-add}
 use mathlib.Core.Path.{_≡_, refl, sym, ap, _∙_}
@@ -13,36 +12,26 @@ use lib.Ieee.{Float}
 use Rattle.extrema.specs.Extrema.{Least}
 use Rattle.vecmath.specs.Vector.{Fold}
 use Rattle.walks.specs.Records.{noCone, OverRecords}
-use Rattle.walks.proofs.Indexed.{fold-first, by-index}
+use Rattle.walks.proofs.Indexed.{fold-first, by-index, kind-at}
 use Rattle.vecmath.proofs.Loops.{fold-same}
 use Rattle.answers.specs.Refusal.{_⊳_, Unlike, BadLimit}
 use Rattle.answers.specs.Outcome.{Reply, lengths, Came, Call}
-use Rattle.answers.proofs.Laws.{clear-both, clear-lengths, first-left, lengths-are}
+use Rattle.answers.proofs.Laws.{clear-both, clear-lengths, first-left, first-none, lengths-are}
 use Rattle.ordering.proofs.Listed.{list-loop}
 use Rattle.conelist.specs.declared.Cone.{Cone}
-use Rattle.conelist.specs.Layout.{Dim, KindAt, Before, BadRecord, BadRecords, AllFit}
+use Rattle.conelist.specs.Layout.{Dim, Before, Entries, BadRecord, BadRecords, BadList, AllFit}
 use Rattle.conewalk.proofs.Walked.{before-cons}
 use Rattle.conelist.proofs.Placed.{all-fit}
-use Rattle.whole_step.specs.List.{BadList, Entries, StepOfCone, ListStepLength}
+use Rattle.whole_step.specs.List.{StepOfCone, ListStepLength}
 use Rattle.whole_step.specs.declared.Walk.{Walk}
 use Rattle.whole_step.specs.Walk.{StepOpening, Taken, Short, Onward, StepFurther, StepClosing}
 
 -- ---- the records, by their index
 
-kind-at : (cs : List Cone) (k : ℕ) → getD cs k noCone .kind ≡ KindAt cs k
-kind-at [] k = refl
-kind-at (c ∷ cs) zero = refl
-kind-at (c ∷ cs) (suc k) = kind-at cs k
-
 first-assoc : (a b c : ℕ) → (a ⊳ b) ⊳ c ≡ a ⊳ b ⊳ c
 unfolding _⊳_
 first-assoc zero b c = refl
 first-assoc (suc a) b c = refl
-
-first-none : (a : ℕ) → a ⊳ 0 ≡ a
-unfolding _⊳_
-first-none zero = refl
-first-none (suc a) = refl
 
 -- their refusals, met one after another behind a
 records : (cs : List Cone) (total a : ℕ) → Fold (length cs) a (λ k no. no ⊳ BadRecord (total + Before Dim cs k) (getD cs k noCone)) ≡ a ⊳ BadRecords total cs
@@ -119,16 +108,8 @@ module _ (cs : List Cone) (dz ds z s : List Float) (αmax : Float) where
           by-length true q = record { refusal = sym f ∙ met e; entries = λ _. past e; least = λ _ l. absurd (true≢false (sym q ∙ ap (Short dz ds z s) (past e) ∙ not-short _ l)) }
           by-length false q = record { refusal = sym f ∙ met e; entries = λ _. past e; least = λ _ l. (next-z e l, next-s e l) }
 
-  abbrev pub After : ℕ → Walk
+  abbrev After : ℕ → Walk
   After i = Fold i (StepOpening (length cs) αmax) (λ k w. StepFurther w (getD cs k noCone) dz ds z s αmax)
-
-  pub after-none : After 0 ≡ StepOpening (length cs) αmax
-  unfolding Fold
-  after-none = refl
-
-  pub after-turn : (i : ℕ) (w w′ : Walk) → w ≡ After i → w′ ≡ StepFurther w (getD cs i noCone) dz ds z s αmax → w′ ≡ After (i + 1)
-  unfolding Fold
-  after-turn i w w′ e f = f ∙ rw (e, add-one i)
 
   behind : (i : ℕ) → Underway i (After i)
   unfolding Fold
@@ -144,7 +125,7 @@ module _ (cs : List Cone) (dz ds z s : List Float) (αmax : Float) where
   abbrev Fitting : ℕ → List (ℕ × ℕ)
   Fitting n = (length dz, n) ∷ (length ds, n) ∷ (length z, n) ∷ (length s, n) ∷ []
 
-  pub walked : StepClosing (After (length cs)) dz ds z s αmax ≡ ListStepLength cs dz ds z s αmax
+  walked : StepClosing (After (length cs)) dz ds z s αmax ≡ ListStepLength cs dz ds z s αmax
   unfolding _⊳_
   walked = go (After (length cs)) (behind (length cs))
     where

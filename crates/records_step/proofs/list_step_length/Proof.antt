@@ -2,7 +2,8 @@
 use Prim.Native.Nat.{_-_}
 use lib.ListN.{length}
 use borrow.Author.Needs.{needs}
-use Rattle.records_step.proofs.Laws.{StepBehind, behind-start, behind-turn, behind-end}
+use Rattle.records.proofs.Laws.{behind-start, behind-turn}
+use Rattle.records_step.proofs.Laws.{StepBehind, step-end}
 use Rattle.records_step.proofs.list_step_length.Statement.{statement}
 use Rattle.records_step.proofs.list_step_length.Tie as tie
 
@@ -18,4 +19,4 @@ list-step-length-spec =
     let turn = c .before .before .before in
     behind-turn _ (turn .before .loop .inv) (turn .loop-test .taken) (c .before .cone-of .ensures) (c .step-further .ensures))
     (λ c κs. search needs)
-    (λ c. behind-end (c .before .before .loop .inv) (c .before .loop-test .left) (c .step-closing .ensures)))
+    (λ c. step-end _ _ _ _ _ _ (c .before .before .loop .inv) (c .before .loop-test .left) (c .step-closing .ensures)))
