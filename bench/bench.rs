@@ -236,6 +236,7 @@ mod rooted {
 // ---- a cone of a list, beside the cone by itself
 
 mod lists;
+mod wholes;
 
 // ---- the lines
 
@@ -324,6 +325,7 @@ fn main() {
         cones::nn(&bench, &mut Random(3));
         rooted::nn(&bench, &mut Random(3));
         lists::lists(&bench, &mut Random(4));
+        wholes::wholes(&bench, &mut Random(5));
     }
     println!(
         "{:33} {:>5} {:>12} {:>12} {:>8} {:>8} {:>8}",

@@ -89,7 +89,7 @@ pub struct Name {
     loose: bool,
 }
 
-fn names(words: &'static str) -> Vec<Name> {
+pub fn names(words: &'static str) -> Vec<Name> {
     words
         .split_whitespace()
         .map(|word| Name {
@@ -233,7 +233,7 @@ impl Call {
         };
         for (k, name) in self.v.iter().enumerate() {
             if equal(name) != Equal::Bits {
-                due.v[k] = 0..l.v[k].len();
+                due.v[k].push(0..l.v[k].len());
             }
         }
         due.o = self.o.iter().map(equal).collect();
@@ -258,13 +258,13 @@ impl Equal {
     }
 }
 
-// What must come of a call: the refusal's number and what all is afterwards. Of each vector the run that
-// was written, where all NaNs count as one, of each lent number how it is compared; whether the lent
+// What must come of a call: the refusal's number and what all is afterwards. Of each vector the runs that
+// were written, where all NaNs count as one, of each lent number how it is compared; whether the lent
 // byte was written, and whether there is a square.
 pub struct Due {
     pub no: u8,
     pub lent: Lent,
-    pub v: Vec<Range<usize>>,
+    pub v: Vec<Vec<Range<usize>>>,
     pub o: Vec<Equal>,
     pub told: bool,
     square: bool,
@@ -278,7 +278,7 @@ impl Due {
         Due {
             no,
             lent,
-            v: vec![0..0; l.v.len()],
+            v: vec![vec![]; l.v.len()],
             o: vec![Equal::Bits; l.o.len()],
             told: false,
             square: name.ends_with("square_hs"),
@@ -563,7 +563,8 @@ pub fn all() -> Vec<Call> {
 // ---- both sides of a call, and their differences
 
 // How a result is spoiled on purpose: a last bit of what was written, a number behind the end of a
-// buffer, a number that was not to be written, the same of a refused call, and the refusal's number.
+// buffer, a number that was not to be written, the same of a refused call, the refusal's number, and
+// the last bit of the last lent number.
 #[derive(Clone, Copy, Debug, PartialEq)]
 pub enum Spoil {
     Nothing,
@@ -572,6 +573,7 @@ pub enum Spoil {
     Unwritten,
     Refused,
     Number,
+    One,
 }
 
 const GUARD: u64 = 0x7ff4_dead_beef_0000;
@@ -655,16 +657,18 @@ fn spoiled(no: &mut u8, l: &mut Places, due: &Due, spoil: Spoil) {
     match spoil {
         Spoil::Nothing => {}
         Spoil::Number => *no ^= 1,
+        Spoil::One => l.o.last().into_iter().for_each(|p| turn(*p)),
         Spoil::Guard => {
             if let Some((p, n)) = l.v.last() {
                 unsafe { *p.add(*n) = 0.0 };
             }
         }
         Spoil::Bit => {
-            let run = (0..l.v.len()).find(|k| !due.v[*k].is_empty());
+            let run = |k: usize| due.v[k].iter().find(|run| !run.is_empty());
+            let run = (0..l.v.len()).find_map(|k| Some((k, run(k)?.start)));
             let one = (0..l.o.len()).find(|k| due.o[*k] != Equal::Bits);
             match (run, one) {
-                (Some(k), _) => turn(l.v[k].0.wrapping_add(due.v[k].start)),
+                (Some((k, at)), _) => turn(l.v[k].0.wrapping_add(at)),
                 (_, Some(k)) => turn(l.o[k]),
                 _ if due.told => unsafe { *l.t ^= 1 },
                 _ => turn(&mut l.rows[0][0]),
@@ -673,11 +677,12 @@ fn spoiled(no: &mut u8, l: &mut Places, due: &Due, spoil: Spoil) {
         // beside a run that was written, if there is such a number
         Spoil::Unwritten | Spoil::Refused if (due.no > 0) == (spoil == Spoil::Refused) => {
             let mut order: Vec<usize> = (0..l.v.len()).collect();
-            order.sort_by_key(|k| due.v[*k].is_empty());
+            order.sort_by_key(|k| due.v[*k].iter().all(|run| run.is_empty()));
             for k in order {
-                let ((p, n), run) = (l.v[k], &due.v[k]);
-                if run.end < n || run.start > 0 {
-                    let at = if run.end < n { run.end } else { run.start - 1 };
+                let ((p, n), runs) = (l.v[k], &due.v[k]);
+                let unwritten = |at: &usize| *at < n && !runs.iter().any(|run| run.contains(at));
+                let beside = |run: &Range<usize>| [run.end, run.start.wrapping_sub(1)];
+                if let Some(at) = runs.iter().flat_map(beside).chain([0]).find(unwritten) {
                     turn(p.wrapping_add(at));
                     return;
                 }
@@ -717,7 +722,7 @@ pub fn compare(v: &[Name], o: &[Name], due: &Due, found: &Found) -> Verdict {
         }
         for (k, name) in v.iter().enumerate() {
             for (i, (x, y)) in std::iter::zip(&found.lent.v[k], &told.v[k]).enumerate() {
-                let equal = match due.v[k].contains(&i) {
+                let equal = match due.v[k].iter().any(|run| run.contains(&i)) {
                     true => Equal::Number,
                     false => Equal::Bits,
                 };
@@ -746,7 +751,8 @@ pub fn compare(v: &[Name], o: &[Name], due: &Due, found: &Found) -> Verdict {
         }
         None
     };
-    let runs = std::iter::zip(&told.v, &due.v).flat_map(|(x, run)| &x[run.clone()]);
+    let runs = std::iter::zip(&told.v, &due.v)
+        .flat_map(|(x, runs)| runs.iter().flat_map(|run| &x[run.clone()]));
     let ones = std::iter::zip(&told.o, &due.o).filter(|(_, equal)| **equal != Equal::Bits);
     let numbers = runs
         .chain(ones.map(|(x, _)| x))

@@ -15,7 +15,7 @@ mod lists;
 
 use clarabel::algebra::SECOND;
 use lists::calls::random::Random;
-use lists::calls::{way, Call, Compared, Due, Lent, Name};
+use lists::calls::{find, way, Call, Compared, Due, Lent, Name};
 use lists::{tiled, Input, Listed};
 use std::collections::BTreeMap;
 use std::fmt::Write;
@@ -73,6 +73,7 @@ fn number_of(name: &str) -> u64 {
     match name {
         "akm_sqrt_soc_residual" => 0x100 + operation("sqrt_residual"),
         "akm_whole_step_length" => 0x312,
+        "akm_whole_update_scaling" => 0x313,
         _ => unreachable!(),
     }
 }
@@ -139,11 +140,16 @@ fn number(text: &mut String, x: f64) {
 fn answer(name: &str, o: &[Name], due: &Due) -> String {
     let mut text = due.no.to_string();
     if due.no == 0 {
-        let values = std::iter::zip(o, &due.lent.o).filter(|(name, _)| !lent(name));
+        let value = |name: &Name| !lent(name) && name.name != "cone";
+        let values = std::iter::zip(o, &due.lent.o).filter(|(name, _)| value(name));
         values.for_each(|(_, x)| number(&mut text, *x));
     }
     if due.told {
         write!(text, " {}", due.lent.t).unwrap();
+    }
+    // of a false of the list's scaling the cone's index too, which lies there by its bits
+    if let Some(j) = find(o, "cone").filter(|_| due.told && due.lent.t == 0) {
+        write!(text, " {}", due.lent.o[j].to_bits()).unwrap();
     }
     if name.ends_with("square_hs") {
         let rows = due.lent.rows.iter().flatten();
@@ -209,6 +215,11 @@ impl Recorded for Listed<'_> {
     }
 
     fn drawer(&self, input: &Input) -> String {
+        // the list's scaling names no cone: where it ended, and by which false
+        if self.name == "akm_whole_update_scaling" {
+            let end = self.end(input).map(|(k, way)| (k.min(3), way));
+            return format!("{end:?}");
+        }
         let cone = |c: &lists::Record| (c.kind, c.dimension.min(6));
         format!("{:?}", input.row.get(input.k).map(cone))
     }
@@ -310,7 +321,7 @@ fn damaged() -> Vec<(String, &'static str)> {
         ("3 0 0 0 0".to_string(), "no such call"),
         ("116 0 0 0 0 0".to_string(), "no such call"),
         ("206 0 0 0 0 0 0".to_string(), "no such call"),
-        ("313 0 0 0 0 0".to_string(), "no such call"),
+        ("314 0 0 0 0 0".to_string(), "no such call"),
         ("ffffffffffffffff 0 0 0 0".to_string(), "no such call"),
         ("0".to_string(), "words are missing"),
         ("0 0 0 0".to_string(), "words are missing"),

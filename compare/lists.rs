@@ -1,9 +1,10 @@
-// Every call on one cone of a list that akmuzrel exports, and the list's step, beside the crate's three
-// files over the stand-in. What is due: document 01's refusal table for lists, read here in Rust; else
-// what the files make of the cone's own numbers alone, as compare/calls.rs has it for the bare call of
-// that kind, put back into the whole buffers. So whatever is not the cone's own must keep its bits, the
-// row of records too. The list's step is the least of what the files tell of each cone, or, where a = 0
-// and b < 0, document 02, item 3.
+// Every call on one cone of a list that akmuzrel exports, and the list's scaling and step, beside the
+// crate's three files over the stand-in. What is due: document 01's refusal table for lists, read here
+// in Rust; else what the files make of the cone's own numbers alone, as compare/calls.rs has it for the
+// bare call of that kind, put back into the whole buffers. So whatever is not the cone's own must keep
+// its bits, the row of records too. The list's step is the least of what the files tell of each cone,
+// or, where a = 0 and b < 0, document 02, item 3. The list's scaling is that of cone 0, 1, .. one by one
+// up to the first that tells false, whose index it tells too: document 02, item 1.
 //
 // Otherwise as compare/calls.rs, which is taken in as a module: results spoiled on purpose, SPOIL, the
 // first difference of a call with the smallest input found, and the last line 'N passed, M failed'.
@@ -17,8 +18,8 @@ pub mod calls;
 
 use calls::random::Random;
 use calls::{
-    chosen, find, Call, Compared, Due, Equal, Lent, Mended, Name, Places, Spoil, Square, Taste,
-    Verdict, P,
+    chosen, find, names, way, Call, Compared, Due, Equal, Lent, Mended, Name, Places, Spoil,
+    Square, Taste, Verdict, P,
 };
 use std::ops::Range;
 
@@ -33,6 +34,10 @@ pub struct Record {
 
 const NONNEGATIVE: usize = 0;
 const SECOND_ORDER: usize = 1;
+
+// the ways of a second-order scaling
+const TRUE: &str = "update_scaling: true";
+const FALSE: [&str; 2] = ["update_scaling: early false", "update_scaling: late false"];
 
 // before and behind the row; no cone
 const GUARD: Record = Record {
@@ -55,7 +60,8 @@ pub struct Row {
     k: usize,
 }
 
-// A call on a list lends what the bare call of the second-order cone lends, η and d as vectors.
+// A call on a list lends what the bare call of the second-order cone lends, η and d as vectors. The
+// list's scaling also lends the cone's index, which lies among the lent numbers, by its bits.
 pub struct Listed<'a> {
     pub name: &'static str,
     soc: &'a Call,
@@ -120,6 +126,9 @@ pub fn all(bare: &[Call]) -> Vec<Listed<'_>> {
     all.push(Listed::new(bare, "akm_whole_step_length", |row, l| {
         native!(@ l akm_whole_step_length (row.list, row.length) (*mut Record, usize) v 0 v 1 v 2 v 3 a 0 o 0 o 1)
     }));
+    all.push(Listed::new(bare, "akm_whole_update_scaling", |row, l| {
+        native!(@ l akm_whole_update_scaling (row.list, row.length) (*mut Record, usize) v 0 v 1 v 2 v 3 v 4 v 5 v 6 v 7 t o 0)
+    }));
     all
 }
 
@@ -159,10 +168,13 @@ impl<'a> Listed<'a> {
             .trim_start_matches("akm_whole");
         let of = |cone: &str| bare.iter().find(|call| call.name == format!("{cone}{end}"));
         let soc = of("akm_soc").unwrap();
-        let (by_cone, o): (Vec<Name>, _) = soc
+        let (by_cone, mut o): (Vec<Name>, Vec<Name>) = soc
             .o
             .iter()
             .partition(|name| ["eta", "d"].contains(&name.name));
+        if name == "akm_whole_update_scaling" {
+            o.extend(names("cone!"));
+        }
         Listed {
             name,
             soc,
@@ -174,7 +186,11 @@ impl<'a> Listed<'a> {
     }
 
     fn whole(&self) -> bool {
-        self.name == "akm_whole_step_length"
+        self.name.starts_with("akm_whole")
+    }
+
+    fn scaling(&self) -> bool {
+        self.name == "akm_whole_update_scaling"
     }
 
     fn square(&self) -> bool {
@@ -229,8 +245,7 @@ impl<'a> Listed<'a> {
     }
 
     // What the bare call of cone k is lent, and put back.
-    fn taken(&self, call: &Call, input: &Input, k: usize) -> Lent {
-        let Input { row, lent, .. } = input;
+    fn taken(&self, call: &Call, row: &[Record], k: usize, lent: &Lent) -> Lent {
         let buffer = |name: &Name| {
             let j = find(&self.v, name.name)?;
             Some(&lent.v[j][self.own(j, row, k)])
@@ -246,7 +261,9 @@ impl<'a> Listed<'a> {
                 .map(|name| buffer(name).unwrap().to_vec())
                 .collect(),
             o: call.o.iter().map(one).collect(),
-            ..lent.clone()
+            a: lent.a.clone(),
+            t: lent.t,
+            rows: lent.rows,
         }
     }
 
@@ -260,16 +277,65 @@ impl<'a> Listed<'a> {
             }
         }
         for (j, name) in self.o.iter().enumerate() {
-            lent.o[j] = own.o[find(&call.o, name.name).unwrap()];
+            if let Some(i) = find(&call.o, name.name) {
+                lent.o[j] = own.o[i];
+            }
         }
         (lent.t, lent.rows) = (own.t, own.rows);
+    }
+
+    // What the call on cone k makes of all as it is by now.
+    fn made(&self, row: &[Record], k: usize, due: &mut Due) {
+        let call = self.of(&row[k]).unwrap();
+        let own = call.due(&self.taken(call, row, k, &due.lent));
+        assert_eq!(own.no, 0);
+        self.put(call, &own.lent, row, k, &mut due.lent);
+        for (j, name) in self.v.iter().enumerate() {
+            let range = self.own(j, row, k);
+            if let Some(i) = find(&call.v, name.name) {
+                let placed = |run: &Range<usize>| range.start + run.start..range.start + run.end;
+                due.v[j].extend(own.v[i].iter().map(placed));
+            } else if find(&call.o, name.name).is_some_and(|i| own.o[i] != Equal::Bits) {
+                due.v[j].push(range);
+            }
+        }
+        for (j, name) in self.o.iter().enumerate() {
+            if let Some(i) = find(&call.o, name.name) {
+                due.o[j] = own.o[i];
+            }
+        }
+        due.told = own.told;
+    }
+
+    // Document 02, item 1. A cone's index is told with a false only: else what was lent is left.
+    fn whole_scaling(&self, input: &Input, due: &mut Due) {
+        (due.lent.t, due.told) = (1, true);
+        for k in 0..input.row.len() {
+            self.made(&input.row, k, due);
+            if due.lent.t == 0 {
+                due.lent.o[0] = f64::from_bits(k as u64);
+                return;
+            }
+        }
+    }
+
+    // The cone at which the list's scaling ends, and which of its two falses that tells.
+    pub fn end(&self, input: &Input) -> Option<(usize, &'static str)> {
+        let Input { row, lent, .. } = input;
+        (0..row.len()).find_map(|k| {
+            let call = self.of(&row[k])?;
+            let way = way(call, &self.taken(call, row, k, lent))?;
+            (way != TRUE).then_some((k, way))
+        })
     }
 
     // Document 01: each cone gets the caller's limit, and each side's least is the answer.
     fn whole_step(&self, input: &Input, due: &mut Due) {
         let steps = |k| {
             let call = self.of(&input.row[k]).unwrap();
-            call.due(&self.taken(call, input, k)).lent.o
+            call.due(&self.taken(call, &input.row, k, &input.lent))
+                .lent
+                .o
         };
         let steps: Vec<_> = (0..input.row.len()).map(steps).collect();
         for side in 0..2 {
@@ -290,7 +356,7 @@ impl<'a> Listed<'a> {
         };
         for k in cones.filter(|_| find(&self.soc.a, "limit").is_some()) {
             if let Some(call) = self.of(&input.row[k]) {
-                mended.count(call, &self.taken(call, input, k));
+                mended.count(call, &self.taken(call, &input.row, k, &input.lent));
             }
         }
     }
@@ -300,27 +366,13 @@ impl<'a> Listed<'a> {
         if due.no > 0 {
             return due;
         }
-        if self.whole() {
+        if self.scaling() {
+            self.whole_scaling(input, &mut due);
+        } else if self.whole() {
             self.whole_step(input, &mut due);
-            return due;
+        } else {
+            self.made(&input.row, input.k, &mut due);
         }
-        let Input { row, k, .. } = input;
-        let call = self.of(&row[*k]).unwrap();
-        let own = call.due(&self.taken(call, input, *k));
-        assert_eq!(own.no, 0);
-        self.put(call, &own.lent, row, *k, &mut due.lent);
-        for (j, name) in self.v.iter().enumerate() {
-            let range = self.own(j, row, *k);
-            if let Some(i) = find(&call.v, name.name) {
-                due.v[j] = range.start + own.v[i].start..range.start + own.v[i].end;
-            } else if find(&call.o, name.name).is_some_and(|i| own.o[i] != Equal::Bits) {
-                due.v[j] = range;
-            }
-        }
-        for (j, name) in self.o.iter().enumerate() {
-            due.o[j] = own.o[find(&call.o, name.name).unwrap()];
-        }
-        due.told = own.told;
         due
     }
 }
@@ -406,6 +458,24 @@ fn damage_row(random: &mut Random, row: &mut Vec<Record>) {
     }
 }
 
+// Which way the scaling of each cone is to take, if any will not do: true up to a second-order cone
+// that tells one of the two falses, or true of all. Left to chance, few lists would get far.
+fn ways(random: &mut Random, row: &[Record]) -> Vec<Option<&'static str>> {
+    let mut ways = vec![None; row.len()];
+    let cones: Vec<usize> = (0..row.len())
+        .filter(|k| row[*k].kind == SECOND_ORDER)
+        .collect();
+    if random.one_in(4) {
+        return ways;
+    }
+    let end = random.below(cones.len() + 1);
+    cones[..end].iter().for_each(|k| ways[*k] = Some(TRUE));
+    if let Some(k) = cones.get(end) {
+        ways[*k] = Some(FALSE[random.below(2)]);
+    }
+    ways
+}
+
 impl Listed<'_> {
     // The numbers of a cone that the call reads go together; the others are of any kind.
     pub fn fitting(&self, random: &mut Random, row: Vec<Record>, k: usize) -> Input {
@@ -416,10 +486,23 @@ impl Listed<'_> {
         let o = self.o.iter().map(|_| random.number(taste)).collect();
         let Lent { a, t, rows, .. } = random.fitting(self.soc, 2);
         let mut lent = Lent { v, a, o, t, rows };
+        let mut wanted = vec![None; row.len()];
+        if self.scaling() {
+            // no index of a list, and no byte of it that of a small number
+            lent.o[0] = f64::from_bits(random.bits() | 0x8080_8080_8080_8080);
+            wanted = ways(random, &row);
+        }
         for i in 0..row.len() {
             let named = self.whole() || i == k;
             if let Some(call) = self.of(&row[i]).filter(|_| named) {
-                let own = random.fitting(call, row[i].dimension);
+                let mut own = random.fitting(call, row[i].dimension);
+                // a late false is one in some 23
+                for _ in 0..200 {
+                    if wanted[i].is_none() || way(call, &own) == wanted[i] {
+                        break;
+                    }
+                    own = random.fitting(call, row[i].dimension);
+                }
                 self.put(call, &own, &row, i, &mut lent);
                 lent.a = own.a;
             }
@@ -474,13 +557,17 @@ impl Compared for Listed<'_> {
     }
 
     fn spoils(&self) -> Vec<Spoil> {
-        vec![
+        let mut spoils = vec![
             Spoil::Bit,
             Spoil::Number,
             Spoil::Guard,
             Spoil::Refused,
             Spoil::Unwritten,
-        ]
+        ];
+        if self.scaling() {
+            spoils.push(Spoil::One);
+        }
+        spoils
     }
 
     fn input(&self, random: &mut Random) -> Input {
@@ -578,6 +665,45 @@ impl Compared for Listed<'_> {
     }
 }
 
+// How the list's scaling ended: true of all, and how many of these had no second-order cone, which alone
+// can tell false; else of either false how often at cone 0, 1, .., at a later one, and at a list's last.
+#[derive(Default)]
+struct Ends {
+    all_true: u64,
+    sure: u64,
+    at: [[u64; Ends::COLUMNS]; 2],
+}
+
+impl Ends {
+    const COLUMNS: usize = 10;
+
+    fn count(&mut self, call: &Listed, input: &Input) {
+        let Some((k, way)) = call.end(input) else {
+            self.all_true += 1;
+            self.sure += input.row.iter().all(|c| c.kind == NONNEGATIVE) as u64;
+            return;
+        };
+        let line = &mut self.at[(way == FALSE[1]) as usize];
+        line[k.min(Ends::COLUMNS - 2)] += 1;
+        line[Ends::COLUMNS - 1] += (k + 1 == input.row.len()) as u64;
+    }
+
+    fn print(&self) {
+        let Ends { all_true, sure, at } = self;
+        println!(
+            "the list's scaling: {all_true} all true, {sure} of them without a second-order cone"
+        );
+        print!("{:30}", "false at cone");
+        (0..Ends::COLUMNS - 2).for_each(|k| print!(" {k:>8}"));
+        println!(" {:>8} {:>8}", "later", "the last");
+        for (way, line) in std::iter::zip(FALSE, at) {
+            print!("{way:30}");
+            line.iter().for_each(|times| print!(" {times:8}"));
+            println!();
+        }
+    }
+}
+
 const COLUMNS: [&str; 12] = [
     "done",
     "second-order",
@@ -597,13 +723,16 @@ fn main() {
     let bare = calls::all();
     let calls = all(&bare);
     let mut lines = vec![[0u64; COLUMNS.len()]; calls.len()];
-    let mut mended = Mended::default();
+    let (mut mended, mut ends) = (Mended::default(), Ends::default());
     let (passed, failed) = calls::run(&calls, calls::arguments(3_000_000), |at, input, verdict| {
         let line = &mut lines[at];
         match verdict.due {
             0 => {
                 line[0] += 1;
                 calls[at].count(input, &mut mended);
+                if calls[at].scaling() {
+                    ends.count(&calls[at], input);
+                }
                 if !calls[at].whole() {
                     line[2 - input.row[input.k].kind] += 1;
                 }
@@ -636,6 +765,7 @@ fn main() {
         }
         println!();
     }
+    ends.print();
     mended.print();
     println!("{passed} passed, {failed} failed");
     std::process::exit((failed > 0) as i32);
