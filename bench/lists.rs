@@ -10,11 +10,11 @@ const DIM: usize = 4;
 const ALL: usize = CONES * DIM;
 const BLOCK: usize = DIM * (DIM + 1) / 2;
 
-type P = *mut f64;
-type N = usize;
+pub type P = *mut f64;
+pub type N = usize;
 // a record: start, kind, dimension; a place: crates/sweeps says which numbers
-type Row = *const [usize; 3];
-type Place = *const [usize; 8];
+pub type Row = *const [usize; 3];
+pub type Place = *const [usize; 8];
 
 #[rustfmt::skip]
 extern "C" {
@@ -23,17 +23,17 @@ extern "C" {
     fn measured_mul_w_at(at: Place, y: P, _: N, x: P, _: N, a: f64, b: f64, w: P, _: N, eta: P, _: N) -> u8;
     fn akm_soc_update_scaling(s: P, _: N, z: P, _: N, w: P, _: N, l: P, _: N, u: P, _: N, v: P, _: N, eta: P, d: P, told: *mut u8) -> u8;
     fn akm_list_update_scaling(list: Row, _: N, k: N, s: P, _: N, z: P, _: N, w: P, _: N, l: P, _: N, u: P, _: N, v: P, _: N, eta: P, _: N, d: P, _: N, told: *mut u8) -> u8;
-    fn measured_update_scaling_at(at: Place, s: P, _: N, z: P, _: N, w: P, _: N, l: P, _: N, u: P, _: N, v: P, _: N, eta: P, _: N, d: P, _: N, told: *mut u8) -> u8;
+    pub fn measured_update_scaling_at(at: Place, s: P, _: N, z: P, _: N, w: P, _: N, l: P, _: N, u: P, _: N, v: P, _: N, eta: P, _: N, d: P, _: N, told: *mut u8) -> u8;
 }
 
-fn kept(x: Vec<f64>) -> Lent {
+pub fn kept(x: Vec<f64>) -> Lent {
     Lent::new(x.leak())
 }
 
 // Points inside every cone, one behind the other.
-fn inside(random: &mut Random) -> Vec<f64> {
-    let mut all = vector(random, ALL);
-    for x in all.chunks_mut(DIM) {
+pub fn inside(random: &mut Random, cones: usize, dim: usize) -> Vec<f64> {
+    let mut all = vector(random, cones * dim);
+    for x in all.chunks_mut(dim) {
         x[0] = 0.5 + 1.5 * x[1..].iter().map(|x| x * x).sum::<f64>().sqrt();
     }
     all
@@ -82,7 +82,7 @@ pub fn lists(bench: &Bench, random: &mut Random) {
     let places: Vec<[usize; 8]> = (0..CONES)
         .map(|k| [k, k * DIM, 1, DIM, k * BLOCK, ALL, CONES, CONES * BLOCK])
         .collect();
-    let [s, z] = [0, 1].map(|_| kept(inside(random)));
+    let [s, z] = [0, 1].map(|_| kept(inside(random, CONES, DIM)));
     let y = kept(vector(random, ALL));
     let [w, l, u, v] = [0, 1, 2, 3].map(|_| kept(vec![0.0; ALL]));
     let [eta, d] = [0, 1].map(|_| kept(vec![0.0; CONES]));

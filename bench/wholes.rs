@@ -1,33 +1,14 @@
 // The scaling of a whole list in one call (document 02, item 1), the row walked as C has it: beside the calls
 // over places, which are found once, and beside a loop over the crate's three files, a cone each, over the
 // machine's root and over ours. All sides stop at a false; the points lie inside, so none does.
-use super::{same, vector, Bench, Lent};
+use super::lists::{inside, kept, measured_update_scaling_at, Row, N, P};
+use super::{same, Bench, Lent};
 use crate::random::Random;
 use std::hint::black_box;
-
-type P = *mut f64;
-type N = usize;
-// a record: start, kind, dimension; a place: crates/sweeps says which numbers
-type Row = *const [usize; 3];
-type Place = *const [usize; 8];
 
 #[rustfmt::skip]
 extern "C" {
     fn akm_whole_update_scaling(list: Row, _: N, s: P, _: N, z: P, _: N, w: P, _: N, l: P, _: N, u: P, _: N, v: P, _: N, eta: P, _: N, d: P, _: N, told: *mut u8, cone: *mut usize) -> u8;
-    fn measured_update_scaling_at(at: Place, s: P, _: N, z: P, _: N, w: P, _: N, l: P, _: N, u: P, _: N, v: P, _: N, eta: P, _: N, d: P, _: N, told: *mut u8) -> u8;
-}
-
-fn kept(x: Vec<f64>) -> Lent {
-    Lent::new(x.leak())
-}
-
-// Points inside every cone, one behind the other.
-fn inside(random: &mut Random, cones: usize, dim: usize) -> Vec<f64> {
-    let mut all = vector(random, cones * dim);
-    for x in all.chunks_mut(dim) {
-        x[0] = 0.5 + 1.5 * x[1..].iter().map(|x| x * x).sum::<f64>().sqrt();
-    }
-    all
 }
 
 // The loop over the files: whether all cones answered true; and what they store, as the list has it.

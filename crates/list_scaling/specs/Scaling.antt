@@ -22,7 +22,7 @@ UpdateScalingDeed =
     Plain (per-entry real ∷ per-entry real ∷ per-entry real ∷ per-entry real ∷ per-cone real ∷ per-cone real ∷ []) (per-entry real ∷ per-entry real ∷ [])
     (λ kind w lambda u v η d s z. KindScaling kind s z w lambda u v η d)
 
--- each buffer's length, and the length that the record asks for, at a place
+-- each buffer's length, and the length that the record asks for at a place (document 01, "The list and its buffers")
 abbrev pub LengthsAt : Place → (s z w lambda u v η d : List Float) → List (ℕ × ℕ)
 LengthsAt p s z w lambda u v η d =
     Tests p (UpdateScalingDeed .writes) (Lengths (UpdateScalingDeed .writes) (w ⨾ lambda ⨾ u ⨾ v ⨾ η ⨾ d ⨾ tt)) ++ Tests p (UpdateScalingDeed .reads) (Lengths (UpdateScalingDeed .reads) (s ⨾ z ⨾ tt))

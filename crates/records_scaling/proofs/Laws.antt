@@ -7,13 +7,13 @@ use lib.ListN.{length, getD}
 use lib.Ieee.{Float}
 use mir.Syntax.{w64}
 use mir.Val.{Fits}
-use Rattle.answers.specs.Outcome.{Ruling, Scaled, Outcome, tells, _⨾_}
+use Rattle.answers.specs.Outcome.{Ruling, Scaled, _⨾_}
 use Rattle.conelist.specs.declared.Cone.{Cone}
 use Rattle.conelist.specs.declared.Place.{Place}
 use Rattle.conelist.specs.Layout.{PlaceOf}
 use Rattle.walks.specs.Records.{OverRecords}
-use Rattle.whole_scaling.specs.List.{Written, ListUpdateScaling}
-use Rattle.whole_scaling.specs.Walk.{Underway, With, ScalingOpening, Fitting, ScalingFurther, ScalingClosing}
+use Rattle.whole_scaling.specs.List.{ListUpdateScaling}
+use Rattle.whole_scaling.specs.Walk.{Underway, With, ScalingOpening, Fitting, ScalingClosing, ScalingTurn, AsOutcome}
 use Rattle.whole_scaling.proofs.Laws.{fits-start, fits-turn}
 use Rattle.whole_scaling.proofs.Walked.{list-update-scaling-closes}
 use Rattle.records.specs.Record.{ConeOf, Cones}
@@ -23,10 +23,6 @@ use Rattle.records.proofs.Laws.{Behind, behind-start, behind-turn, behind-end, 
 pub next-fits : (i n : ℕ) → i < n → n < 2 ^ 64 → Fits w64 (i + 1)
 next-fits i n l room = record { fits = omega arith }
 
--- by what the buffers lent for reading hold
-abbrev turn : (s z : List Float) → Underway → Cone → Underway
-turn s z t c = ScalingFurther (t .0) c s z (t .1) (t .2) (t .3) (t .4) (t .5) (t .6)
-
 abbrev Tested : (s z : List Float) → Underway → Type 0
 Tested s z t = Fitting (t .0) s z (t .1) (t .2) (t .3) (t .4) (t .5) (t .6)
 
@@ -35,20 +31,17 @@ Long t start = (length (t .1) ≡ length (start .1)) × (length (t .2) ≡ lengt
 
 -- behind i records, from the start; and the buffers keep their lengths, which the walk has tested
 pub record ScalingBehind (list : List (List ℕ)) (s z : List Float) (start : Underway) (i : ℕ) (t : Underway) : Type 0 where
-  pub behind : Behind (turn s z) list start i t
+  pub behind : Behind (ScalingTurn s z) list start i t
   pub long : Long t start
   pub fits : Tested s z t
 
-pub scaling-turn : {list : List (List ℕ)} {s z : List Float} {start t t′ : Underway} {i : ℕ} {c : Cone} (d : List ℕ) → ScalingBehind list s z start i t → i < length list → c ≡ ConeOf (getD list i d) → t′ ≡ turn s z t c → Long t′ start → ScalingBehind list s z start (i + 1) t′
+pub scaling-turn : {list : List (List ℕ)} {s z : List Float} {start t t′ : Underway} {i : ℕ} {c : Cone} (d : List ℕ) → ScalingBehind list s z start i t → i < length list → c ≡ ConeOf (getD list i d) → t′ ≡ ScalingTurn s z t c → Long t′ start → ScalingBehind list s z start (i + 1) t′
 scaling-turn {s = s} {z = z} {t = t} {c = c} d h l e f long =
     record {
       behind = behind-turn d (h .behind) l e f;
       long = long;
       fits = subst (Tested s z) (sym f) (fits-turn s z (t .0) c (t .1) (t .2) (t .3) (t .4) (t .5) (t .6) (h .fits));
     }
-
-abbrev told : Ruling Scaled → Underway → Outcome Scaled Written
-told ruling t = tells ruling (t .1 ⨾ t .2 ⨾ t .3 ⨾ t .4 ⨾ t .5 ⨾ t .6 ⨾ tt)
 
 module _ (list : List (List ℕ)) (s z w lambda u v η d : List Float) where
   abbrev from : ℕ → Place → Underway
@@ -59,8 +52,8 @@ module _ (list : List (List ℕ)) (s z w lambda u v η d : List Float) where
       record { behind = behind-start refl; long = (refl, refl, refl, refl, refl, refl); fits = subst (Tested s z) (sym begun) (fits-start s z (length list) p w lambda u v η d) }
 
   pub scaling-end : {p : Place} {start t : Underway} {i : ℕ} {ruling : Ruling Scaled} → p ≡ PlaceOf (Cones list) 0 → start ≡ from (length list) p
-      → ScalingBehind list s z start i t → length list ≤ i → ruling ≡ ScalingClosing (t .0) → told ruling t ≡ ListUpdateScaling (Cones list) s z w lambda u v η d
+      → ScalingBehind list s z start i t → length list ≤ i → ruling ≡ ScalingClosing (t .0) → AsOutcome ruling t ≡ ListUpdateScaling (Cones list) s z w lambda u v η d
   scaling-end {t = t} place begun h l e =
       let opened = begun ∙ ap (from (length list)) place ∙ ap (λ (n : ℕ). from n (PlaceOf (Cones list) 0)) (sym (length-cones list)) in
-      let whole = behind-end (h .behind) l ∙ ap (OverRecords (turn s z) (Cones list)) opened in
-      list-update-scaling-closes (Cones list) s z w lambda u v η d (ap (λ r. told r t) e ∙ ap (λ (t : Underway). told (ScalingClosing (t .0)) t) whole)
+      let whole = behind-end (h .behind) l ∙ ap (OverRecords (ScalingTurn s z) (Cones list)) opened in
+      list-update-scaling-closes (Cones list) s z w lambda u v η d (ap (λ r. AsOutcome r t) e ∙ ap (λ (t : Underway). AsOutcome (ScalingClosing (t .0)) t) whole)

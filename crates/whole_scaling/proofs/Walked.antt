@@ -11,7 +11,7 @@ use lib.ListN.{length, getD, drop, drop-of-length-le}
 use lib.Seq.{drop-cons}
 use lib.Ieee.{Float}
 use Rattle.answers.specs.Refusal.{_⊳_, Unlike}
-use Rattle.answers.specs.Outcome.{Reply, Scaled, Ruling, gives, false-at, Outcome, Call, tells, _⨾_}
+use Rattle.answers.specs.Outcome.{Reply, Scaled, Ruling, gives, false-at, Outcome, Call, _⨾_}
 use Rattle.answers.proofs.Laws.{clear-both}
 use Rattle.conelist.specs.declared.Cone.{Cone}
 use Rattle.conelist.specs.declared.Place.{Place}
@@ -23,14 +23,14 @@ use Rattle.walks.proofs.Indexed.{kind-at}
 use Rattle.whole_scaling.proofs.Laws.{at-true, fits-start, fits-turn}
 use Rattle.whole_scaling.specs.List.{Written, IsTrue, Behind, Singly, Unless, ListUpdateScaling}
 use Rattle.whole_scaling.specs.declared.Walk.{Walk}
-use Rattle.whole_scaling.specs.Walk.{Underway, With, Started, ScalingOpening, Ahead, Fitting, Past, EndedAt, Passed, ScalingFurther, ScalingClosing, ScalingFrom}
+use Rattle.whole_scaling.specs.Walk.{Underway, With, Started, ScalingOpening, Ahead, Fitting, Past, EndedAt, Passed, ScalingFurther, ScalingClosing, ScalingTurn, AsOutcome, ScalingFrom}
 
-module _ (cs : List Cone) (s z : List Float) where
+module _ (s z : List Float) where
   abbrev turn : Underway → Cone → Underway
-  turn t c = ScalingFurther (t .0) c s z (t .1) (t .2) (t .3) (t .4) (t .5) (t .6)
+  turn = ScalingTurn s z
 
   abbrev ends : Underway → Outcome Scaled Written
-  ends t = tells (ScalingClosing (t .0)) (t .1 ⨾ t .2 ⨾ t .3 ⨾ t .4 ⨾ t .5 ⨾ t .6 ⨾ tt)
+  ends t = AsOutcome (ScalingClosing (t .0)) t
 
   -- a walk that is over leaves all
   over : (ds : List Cone) (walk : Walk) (holds : Written) → walk .ended ≡ true → OverRecords turn ds (With walk holds) ≡ With walk holds
@@ -45,6 +45,7 @@ module _ (cs : List Cone) (s z : List Float) where
   unfolding ScalingClosing Unless
   refused ds n walk holds f e = ap ends (over ds walk holds e) ∙ rw (f, ne-eqb (suc n) 0 (λ q. omega arith))
 
+module _ (cs : List Cone) (s z : List Float) where
   -- where it stands behind k cones that answered true
   abbrev next : ℕ → Walk
   next k =
@@ -67,11 +68,11 @@ module _ (cs : List Cone) (s z : List Float) where
   ahead e k l = let r = clear-both (cond (ltb 256 (length cs)) 2 0) (BadRecords 0 cs) e in rw (r .0, r .1, lt-ltb k (length cs) l)
 
   -- the cones from k on, so many that are left
-  singly : BadList cs ≡ 0 → (left k : ℕ) → k + left ≡ length cs → (holds : Written) → ends (OverRecords turn (drop k cs) (With (next k) holds)) ≡ Singly cs s z left k holds
+  singly : BadList cs ≡ 0 → (left k : ℕ) → k + left ≡ length cs → (holds : Written) → ends s z (OverRecords (turn s z) (drop k cs) (With (next k) holds)) ≡ Singly cs s z left k holds
   unfolding ScalingClosing ScalingFurther Call Passed Behind Unless
-  singly e zero k l holds = ap (λ ds. ends (OverRecords turn ds (With (next k) holds))) (drop-of-length-le cs {i = k} (omega arith))
+  singly e zero k l holds = ap (λ ds. ends s z (OverRecords (turn s z) ds (With (next k) holds))) (drop-of-length-le cs {i = k} (omega arith))
   singly e (suc left) k l holds =
-      ap (λ ds. ends (OverRecords turn ds (With (next k) holds))) (drop-cons cs k noCone (omega arith))
+      ap (λ ds. ends s z (OverRecords (turn s z) ds (With (next k) holds))) (drop-cons cs k noCone (omega arith))
       ∙ one (getD cs k noCone) (kind-at cs k) (singly e left (suc k) (omega arith))
     where
       rest : List Cone
@@ -79,25 +80,25 @@ module _ (cs : List Cone) (s z : List Float) where
 
       -- what the cones behind k come to
       Onward : Type 0
-      Onward = (news : Written) → ends (OverRecords turn rest (With (next (suc k)) news)) ≡ Singly cs s z left (suc k) news
+      Onward = (news : Written) → ends s z (OverRecords (turn s z) rest (With (next (suc k)) news)) ≡ Singly cs s z left (suc k) news
 
       -- behind the single call: m is its refusal's number
       behind : Onward → (m : ℕ) (reply : Reply) (news : Written)
           → let came : Outcome Reply Written = Call m reply holds news in
-          ends (OverRecords turn rest (With (Passed (next k) (KindAt cs k) (came .ruling)) (came .holds))) ≡ Behind k (came .ruling) (came .holds) (Singly cs s z left (suc k))
+          ends s z (OverRecords (turn s z) rest (With (Passed (next k) (KindAt cs k) (came .ruling)) (came .holds))) ≡ Behind k (came .ruling) (came .holds) (Singly cs s z left (suc k))
       behind on zero reply news = by-truth (IsTrue reply)
         where
-          by-truth : (t : Bool) → ends (OverRecords turn rest (With (cond t (Past (next k) (KindAt cs k)) (EndedAt 0 (next k))) news)) ≡ cond t (Singly cs s z left (suc k) news) (record { ruling = gives (false-at k); holds = news })
-          by-truth true = ap (λ walk. ends (OverRecords turn rest (With walk news))) (past k) ∙ on news
-          by-truth false = ap ends (over rest (EndedAt 0 (next k)) news refl)
-      behind on (suc m) reply news = refused rest m (EndedAt (suc m) (next k)) holds refl refl
+          by-truth : (t : Bool) → ends s z (OverRecords (turn s z) rest (With (cond t (Past (next k) (KindAt cs k)) (EndedAt 0 (next k))) news)) ≡ cond t (Singly cs s z left (suc k) news) (record { ruling = gives (false-at k); holds = news })
+          by-truth true = ap (λ walk. ends s z (OverRecords (turn s z) rest (With walk news))) (past k) ∙ on news
+          by-truth false = ap (ends s z) (over s z rest (EndedAt 0 (next k)) news refl)
+      behind on (suc m) reply news = refused s z rest m (EndedAt (suc m) (next k)) holds refl refl
 
-      one : (c : Cone) → c .kind ≡ KindAt cs k → Onward → ends (OverRecords turn rest (turn (With (next k) holds) c)) ≡ Singly cs s z (suc left) k holds
+      one : (c : Cone) → c .kind ≡ KindAt cs k → Onward → ends s z (OverRecords (turn s z) rest (turn s z (With (next k) holds) c)) ≡ Singly cs s z (suc left) k holds
       one c f on =
           let p : Place = PlaceOf cs k in
           let xs : Tuple Whole (D .reads) = s ⨾ z ⨾ tt in
-          ap (λ kind. let came : Outcome Reply Written = Comes (Ahead (next k) kind) D holds (s ⨾ z ⨾ tt) in ends (OverRecords turn rest (With (Passed (next k) kind (came .ruling)) (came .holds)))) f
-          ∙ ap (λ p. let came : Outcome Reply Written = Comes p D holds (s ⨾ z ⨾ tt) in ends (OverRecords turn rest (With (Passed (next k) (KindAt cs k) (came .ruling)) (came .holds)))) (ahead e k (omega arith))
+          ap (λ kind. let came : Outcome Reply Written = Comes (Ahead (next k) kind) D holds (s ⨾ z ⨾ tt) in ends s z (OverRecords (turn s z) rest (With (Passed (next k) kind (came .ruling)) (came .holds)))) f
+          ∙ ap (λ p. let came : Outcome Reply Written = Comes p D holds (s ⨾ z ⨾ tt) in ends s z (OverRecords (turn s z) rest (With (Passed (next k) (KindAt cs k) (came .ruling)) (came .holds)))) (ahead e k (omega arith))
           ∙ behind on (Refused p D (Lengths (D .writes) holds) (Lengths (D .reads) xs) (Owns p (D .writes) holds) (Owns p (D .reads) xs)) (Works p D holds xs .reply) (Works p D holds xs .news)
 
 -- ---- all of it, from the first cone's place
@@ -163,9 +164,9 @@ module _ (s z w lambda u v η d : List Float) where
       ended : (n : ℕ) → opening cs .no ≡ suc n → opening cs .ended ≡ true
       ended n e = rw (e, ne-eqb (suc n) 0 (λ q. omega arith))
 
-      go : (n : ℕ) → number cs ≡ n → ends cs s z (OverRecords (turn cs s z) cs (With (opening cs) held)) ≡ Unless n held (Singly cs s z (length cs) 0 held)
-      go zero e = ap (λ walk. ends cs s z (OverRecords (turn cs s z) cs (With walk held))) (opened cs e) ∙ singly cs s z (clear-both (BadList cs) (five (LaidAt cs 0)) e .0) (length cs) 0 (omega arith) held
-      go (suc n) e = let f = stopped cs n e in refused cs s z cs n (opening cs) held f (ended n f)
+      go : (n : ℕ) → number cs ≡ n → ends s z (OverRecords (turn s z) cs (With (opening cs) held)) ≡ Unless n held (Singly cs s z (length cs) 0 held)
+      go zero e = ap (λ walk. ends s z (OverRecords (turn s z) cs (With walk held))) (opened cs e) ∙ singly cs s z (clear-both (BadList cs) (five (LaidAt cs 0)) e .0) (length cs) 0 (omega arith) held
+      go (suc n) e = let f = stopped cs n e in refused s z cs n (opening cs) held f (ended n f)
 
 -- ---- what tools/proof takes from here for `scaling_from` and `list_update_scaling`
 
@@ -175,18 +176,18 @@ scaling-from-holds cs p s z w lambda u v η d i t = Fitting (t .0) s z (t .1) (t
 pub scaling-from-start : (cs : List Cone) (p : Place) (s z w lambda u v η d : List Float) → Fitting (ScalingOpening (length cs) p s z w lambda u v η d) s z w lambda u v η d
 scaling-from-start cs p s z w lambda u v η d = fits-start s z (length cs) p w lambda u v η d
 
-pub scaling-from-turn : (cs : List Cone) (p : Place) (s z w lambda u v η d : List Float) (i : ℕ) (t : Underway) → i < length cs → scaling-from-holds cs p s z w lambda u v η d i t → scaling-from-holds cs p s z w lambda u v η d (i + 1) (turn cs s z t (getD cs i noCone))
+pub scaling-from-turn : (cs : List Cone) (p : Place) (s z w lambda u v η d : List Float) (i : ℕ) (t : Underway) → i < length cs → scaling-from-holds cs p s z w lambda u v η d i t → scaling-from-holds cs p s z w lambda u v η d (i + 1) (turn s z t (getD cs i noCone))
 scaling-from-turn cs p s z w lambda u v η d i t l f = fits-turn s z (t .0) (getD cs i noCone) (t .1) (t .2) (t .3) (t .4) (t .5) (t .6) f
 
 pub scaling-from-asks : (cs : List Cone) (p : Place) (s z w lambda u v η d : List Float) → length cs < 2 ^ 64 → (i : ℕ) (t : Underway) → i < length cs → scaling-from-holds cs p s z w lambda u v η d i t → scaling-from-holds cs p s z w lambda u v η d i t
 scaling-from-asks cs p s z w lambda u v η d few i t l f = f
 
 pub scaling-from-closes : (cs : List Cone) (p : Place) (s z w lambda u v η d : List Float) {ruling : Ruling Scaled}
-    → let all : Underway = OverRecords (turn cs s z) cs (ScalingOpening (length cs) p s z w lambda u v η d, w, lambda, u, v, η, d) in
-    ruling ≡ ScalingClosing (all .0) → tells ruling (all .1 ⨾ all .2 ⨾ all .3 ⨾ all .4 ⨾ all .5 ⨾ all .6 ⨾ tt) ≡ ScalingFrom cs p s z w lambda u v η d
+    → let all : Underway = OverRecords (turn s z) cs (With (ScalingOpening (length cs) p s z w lambda u v η d) (w ⨾ lambda ⨾ u ⨾ v ⨾ η ⨾ d ⨾ tt)) in
+    ruling ≡ ScalingClosing (all .0) → AsOutcome ruling all ≡ ScalingFrom cs p s z w lambda u v η d
 scaling-from-closes cs p s z w lambda u v η d e =
-    let all : Underway = OverRecords (turn cs s z) cs (ScalingOpening (length cs) p s z w lambda u v η d, w, lambda, u, v, η, d) in
-    ap (λ t. tells t (all .1 ⨾ all .2 ⨾ all .3 ⨾ all .4 ⨾ all .5 ⨾ all .6 ⨾ tt)) e
+    let all : Underway = OverRecords (turn s z) cs (With (ScalingOpening (length cs) p s z w lambda u v η d) (w ⨾ lambda ⨾ u ⨾ v ⨾ η ⨾ d ⨾ tt)) in
+    ap (λ r. AsOutcome r all) e
 
 pub list-update-scaling-closes : (cs : List Cone) (s z w lambda u v η d : List Float) {came : Outcome Scaled Written} → came ≡ ScalingFrom cs (PlaceOf cs 0) s z w lambda u v η d → came ≡ ListUpdateScaling cs s z w lambda u v η d
 list-update-scaling-closes cs s z w lambda u v η d e = e ∙ walked s z w lambda u v η d cs

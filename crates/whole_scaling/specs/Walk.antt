@@ -100,10 +100,15 @@ ScalingFurther walk c s z w lambda u v η d =
 unfoldable pub ScalingClosing : Walk → Ruling Scaled
 ScalingClosing walk = cond (eqb (walk .no) 0) (cond (walk .ended) (gives (false-at (walk .index))) (gives all-true)) (refuses (walk .no))
 
+-- a turn of the walk with the buffers, and what it comes to, by its ruling
+abbrev pub ScalingTurn : (s z : List Float) → Underway → Cone → Underway
+ScalingTurn s z t c = ScalingFurther (t .0) c s z (t .1) (t .2) (t .3) (t .4) (t .5) (t .6)
+
+abbrev pub AsOutcome : Ruling Scaled → Underway → Outcome Scaled Written
+AsOutcome ruling t = tells ruling (t .1 ⨾ t .2 ⨾ t .3 ⨾ t .4 ⨾ t .5 ⨾ t .6 ⨾ tt)
+
 -- all of it, by the first cone's place
 abbrev pub ScalingFrom : List Cone → Place → (s z w lambda u v η d : List Float) → Outcome Scaled Written
 ScalingFrom cs p s z w lambda u v η d =
-    let all : Underway =
-    OverRecords (λ t c. ScalingFurther (t .0) c s z (t .1) (t .2) (t .3) (t .4) (t .5) (t .6)) cs
-    (ScalingOpening (length cs) p s z w lambda u v η d, w, lambda, u, v, η, d) in
-    tells (ScalingClosing (all .0)) (all .1 ⨾ all .2 ⨾ all .3 ⨾ all .4 ⨾ all .5 ⨾ all .6 ⨾ tt)
+    let all : Underway = OverRecords (ScalingTurn s z) cs (With (ScalingOpening (length cs) p s z w lambda u v η d) (w ⨾ lambda ⨾ u ⨾ v ⨾ η ⨾ d ⨾ tt)) in
+    AsOutcome (ScalingClosing (all .0)) all
