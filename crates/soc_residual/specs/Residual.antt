@@ -13,20 +13,23 @@ use Rattle.answers.specs.Outcome.{number, Came, Call}
 
 -- ---- the values
 
--- (z₀ − norm z₁)·(z₀ + norm z₁)
+-- (x₀ − ν)·(x₀ + ν), of a first entry and the norm of the rest
+abbrev pub ResidualOf : (x₀ ν : Float) → Float
+ResidualOf x₀ ν = (x₀ ⊖ ν) ⊗ (x₀ ⊕ ν)
+
 unfoldable pub Residual : List Float → Float
-Residual z = let ν = Norm (Tail z) in (z ! 0 ⊖ ν) ⊗ (z ! 0 ⊕ ν)
+Residual z = ResidualOf (z ! 0) (Norm (Tail z))
 
 -- the same at z + α·dz
 unfoldable pub ResidualShifted : List Float → List Float → Float → Float
-ResidualShifted z dz α =
-    let x₀ = z ! 0 ⊕ α ⊗ dz ! 0 in
-    let ν = NormShifted (Tail z) (Tail dz) α in
-    (x₀ ⊖ ν) ⊗ (x₀ ⊕ ν)
+ResidualShifted z dz α = ResidualOf (z ! 0 ⊕ α ⊗ dz ! 0) (NormShifted (Tail z) (Tail dz) α)
 
--- its root scale: root if the residual is above 0, else +0 (NaN too)
+-- a residual's root scale: root if the residual is above 0, else +0 (NaN too)
+abbrev pub RootScaleOf : Float → Float
+RootScaleOf ρ = cond (lt 𝟎 ρ) (Root ρ) 𝟎
+
 unfoldable pub RootScale : List Float → Float
-RootScale z = let ρ = Residual z in cond (lt 𝟎 ρ) (Root ρ) 𝟎
+RootScale z = RootScaleOf (Residual z)
 
 -- ---- the bare calls
 

@@ -8,5 +8,5 @@ pub residual-spec : {M : Type 1} → statement M
 unfolding Residual
 residual-spec =
     tie.close (tie.spec
-    (λ c κs. search needs) (λ c. search needs) (λ c. search needs)
-    (λ c. rw (c .before .before .norm .ensures)))
+    (λ c κs. search needs) (λ c. search needs) (λ c κs. search needs)
+    (λ c. rw (c .residual-of .ensures, c .before .before .norm .ensures)))

@@ -8,5 +8,5 @@ pub residual-shifted-spec : {M : Type 1} → statement M
 unfolding ResidualShifted
 residual-shifted-spec =
     tie.close (tie.spec
-    (λ c. search needs) (λ c. search needs) (λ c κs. search needs)
-    (λ c. rw (c .norm-shifted .ensures)))
+    (λ c. search needs) (λ c. search needs) (λ c κs. search needs) (λ c κs. search needs)
+    (λ c. rw (c .residual-of .ensures, c .before .norm-shifted .ensures)))

@@ -9,5 +9,4 @@ unfolding RootScale
 sqrt-residual-spec =
     tie.close (tie.spec
     (λ c κs. search needs) (λ c κs. search needs)
-    (λ c. rw (← c .before .before .residual .ensures, c .before .if1 .taken) (c .sqrt .ensures))
-    (λ c. rw (← c .before .residual .ensures, c .if1 .left)))
+    (λ c. rw (c .root-scale-of .ensures, c .before .residual .ensures)))
