@@ -1,2 +1,2 @@
--- `Laws`: lengths over n.
+-- `Laws`: the root scale of w, and lengths over n.
 pub mod Laws
