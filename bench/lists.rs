@@ -11,6 +11,7 @@ const ALL: usize = CONES * DIM;
 const BLOCK: usize = DIM * (DIM + 1) / 2;
 
 pub type P = *mut f64;
+pub type M = *mut u8;
 pub type N = usize;
 // a record: start, kind, dimension; a place: crates/sweeps says which numbers
 pub type Row = *const [usize; 3];
@@ -19,15 +20,20 @@ pub type Place = *const [usize; 8];
 #[rustfmt::skip]
 extern "C" {
     fn akm_soc_mul_w(y: P, _: N, x: P, _: N, a: f64, b: f64, w: P, _: N, eta: P) -> u8;
-    fn akm_list_mul_w(list: Row, _: N, k: N, y: P, _: N, x: P, _: N, a: f64, b: f64, w: P, _: N, eta: P, _: N) -> u8;
-    fn measured_mul_w_at(at: Place, y: P, _: N, x: P, _: N, a: f64, b: f64, w: P, _: N, eta: P, _: N) -> u8;
+    fn akm_list_mul_w(list: Row, _: N, k: N, y: P, _: N, x: P, _: N, a: f64, b: f64, w: P, _: N, eta: P, _: N, marks: M, _: N) -> u8;
+    fn measured_mul_w_at(at: Place, y: P, _: N, x: P, _: N, a: f64, b: f64, w: P, _: N, eta: P, _: N, marks: M, _: N) -> u8;
     fn akm_soc_update_scaling(s: P, _: N, z: P, _: N, w: P, _: N, l: P, _: N, u: P, _: N, v: P, _: N, eta: P, d: P, told: *mut u8) -> u8;
-    fn akm_list_update_scaling(list: Row, _: N, k: N, s: P, _: N, z: P, _: N, w: P, _: N, l: P, _: N, u: P, _: N, v: P, _: N, eta: P, _: N, d: P, _: N, told: *mut u8) -> u8;
-    pub fn measured_update_scaling_at(at: Place, s: P, _: N, z: P, _: N, w: P, _: N, l: P, _: N, u: P, _: N, v: P, _: N, eta: P, _: N, d: P, _: N, told: *mut u8) -> u8;
+    fn akm_list_update_scaling(list: Row, _: N, k: N, s: P, _: N, z: P, _: N, w: P, _: N, l: P, _: N, u: P, _: N, v: P, _: N, eta: P, _: N, d: P, _: N, marks: M, _: N, told: *mut u8) -> u8;
+    pub fn measured_update_scaling_at(at: Place, s: P, _: N, z: P, _: N, w: P, _: N, l: P, _: N, u: P, _: N, v: P, _: N, eta: P, _: N, d: P, _: N, marks: M, _: N, told: *mut u8) -> u8;
 }
 
 pub fn kept(x: Vec<f64>) -> Lent {
     Lent::new(x.leak())
+}
+
+// Marks of fresh cones: a scaling that answers true makes them Scaled, 2.
+pub fn fresh_marks(cones: usize) -> &'static mut [u8] {
+    vec![0; cones].leak()
 }
 
 // Points inside every cone, one behind the other.
@@ -86,6 +92,7 @@ pub fn lists(bench: &Bench, random: &mut Random) {
     let y = kept(vector(random, ALL));
     let [w, l, u, v] = [0, 1, 2, 3].map(|_| kept(vec![0.0; ALL]));
     let [eta, d] = [0, 1].map(|_| kept(vec![0.0; CONES]));
+    let marks = fresh_marks(CONES).as_mut_ptr();
     let mut told = 0;
     let told: *mut u8 = &mut told;
     let at = |x: Lent, k: usize| unsafe { x.at.add(k * DIM) };
@@ -97,25 +104,25 @@ pub fn lists(bench: &Bench, random: &mut Random) {
     };
     #[rustfmt::skip]
     let over = |k: usize| unsafe {
-        measured_update_scaling_at(&places[k], s.at, ALL, z.at, ALL, w.at, ALL, l.at, ALL, u.at, ALL, v.at, ALL, eta.at, CONES, d.at, CONES, told)
+        measured_update_scaling_at(&places[k], s.at, ALL, z.at, ALL, w.at, ALL, l.at, ALL, u.at, ALL, v.at, ALL, eta.at, CONES, d.at, CONES, marks, CONES, told)
     };
     #[rustfmt::skip]
     let walked = |k: usize| unsafe {
-        akm_list_update_scaling(row.as_ptr(), CONES, k, s.at, ALL, z.at, ALL, w.at, ALL, l.at, ALL, u.at, ALL, v.at, ALL, eta.at, CONES, d.at, CONES, told)
+        akm_list_update_scaling(row.as_ptr(), CONES, k, s.at, ALL, z.at, ALL, w.at, ALL, l.at, ALL, u.at, ALL, v.at, ALL, eta.at, CONES, d.at, CONES, marks, CONES, told)
     };
     let seen = [y, w, l, u, v, eta, d];
     sweep(bench, "list update_scaling, places", &seen, over, bare);
     sweep(bench, "list update_scaling, the row", &seen, walked, bare);
 
     for k in 0..CONES {
-        assert_eq!(bare(k), 0);
+        assert_eq!((over(k), unsafe { *marks.add(k) }), (0, 2));
     }
     #[rustfmt::skip]
     let bare = |k| unsafe { akm_soc_mul_w(at(y, k), DIM, at(z, k), DIM, 0.75, 0.5, at(w, k), DIM, own(eta, k)) };
     #[rustfmt::skip]
-    let over = |k: usize| unsafe { measured_mul_w_at(&places[k], y.at, ALL, z.at, ALL, 0.75, 0.5, w.at, ALL, eta.at, CONES) };
+    let over = |k: usize| unsafe { measured_mul_w_at(&places[k], y.at, ALL, z.at, ALL, 0.75, 0.5, w.at, ALL, eta.at, CONES, marks, CONES) };
     #[rustfmt::skip]
-    let walked = |k: usize| unsafe { akm_list_mul_w(row.as_ptr(), CONES, k, y.at, ALL, z.at, ALL, 0.75, 0.5, w.at, ALL, eta.at, CONES) };
+    let walked = |k: usize| unsafe { akm_list_mul_w(row.as_ptr(), CONES, k, y.at, ALL, z.at, ALL, 0.75, 0.5, w.at, ALL, eta.at, CONES, marks, CONES) };
     sweep(bench, "list mul_w, places", &seen, over, bare);
     sweep(bench, "list mul_w, the row", &seen, walked, bare);
 }

@@ -1,14 +1,14 @@
 // The scaling of a whole list in one call (document 02, item 1), the row walked as C has it: beside the calls
 // over places, which are found once, and beside a loop over the crate's three files, a cone each, over the
 // machine's root and over ours. All sides stop at a false; the points lie inside, so none does.
-use super::lists::{inside, kept, measured_update_scaling_at, Row, N, P};
+use super::lists::{fresh_marks, inside, kept, measured_update_scaling_at, Row, M, N, P};
 use super::{same, Bench, Lent};
 use crate::random::Random;
 use std::hint::black_box;
 
 #[rustfmt::skip]
 extern "C" {
-    fn akm_whole_update_scaling(list: Row, _: N, s: P, _: N, z: P, _: N, w: P, _: N, l: P, _: N, u: P, _: N, v: P, _: N, eta: P, _: N, d: P, _: N, told: *mut u8, cone: *mut usize) -> u8;
+    fn akm_whole_update_scaling(list: Row, _: N, s: P, _: N, z: P, _: N, w: P, _: N, l: P, _: N, u: P, _: N, v: P, _: N, eta: P, _: N, d: P, _: N, marks: M, _: N, told: *mut u8, cone: *mut usize) -> u8;
 }
 
 // The loop over the files: whether all cones answered true; and what they store, as the list has it.
@@ -59,6 +59,7 @@ pub fn wholes(bench: &Bench, random: &mut Random) {
         let [s, z] = [0, 1].map(|_| kept(inside(random, cones, dim)));
         let [w, l, u, v] = [0, 1, 2, 3].map(|_| kept(vec![0.0; all]));
         let [eta, d] = [0, 1].map(|_| kept(vec![0.0; cones]));
+        let marks = fresh_marks(cones).as_mut_ptr();
         let (mut told, mut cone) = (2, 0);
         let (told, cone): (*mut u8, *mut usize) = (&mut told, &mut cone);
         let seen = [w, l, u, v, eta, d];
@@ -66,11 +67,11 @@ pub fn wholes(bench: &Bench, random: &mut Random) {
 
         #[rustfmt::skip]
         let whole = || unsafe {
-            akm_whole_update_scaling(row.as_ptr(), cones, s.at, all, z.at, all, w.at, all, l.at, all, u.at, all, v.at, all, eta.at, cones, d.at, cones, told, cone) == 0 && *told == 1
+            akm_whole_update_scaling(row.as_ptr(), cones, s.at, all, z.at, all, w.at, all, l.at, all, u.at, all, v.at, all, eta.at, cones, d.at, cones, marks, cones, told, cone) == 0 && *told == 1
         };
         #[rustfmt::skip]
         let over = || (0..cones).all(|k| unsafe {
-            measured_update_scaling_at(&places[k], s.at, all, z.at, all, w.at, all, l.at, all, u.at, all, v.at, all, eta.at, cones, d.at, cones, told) == 0 && *told == 1
+            measured_update_scaling_at(&places[k], s.at, all, z.at, all, w.at, all, l.at, all, u.at, all, v.at, all, eta.at, cones, d.at, cones, marks, cones, told) == 0 && *told == 1
         });
         let name = |beside: &str| format!("whole list of {dim}, {beside}");
         if bench.wanted(&name("places")) {

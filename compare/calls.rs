@@ -3,8 +3,10 @@
 // written; what is not written keeps its bits, NaNs too, and so do guard numbers around each buffer.
 // Zeros count by value after a least or greatest (docs/DIFFERENCES.md). When a call is refused is
 // document 01's table, read here in Rust; so are the standing, the square block, and the least and
-// greatest, which the crate does not have. A second-order step along a direction of residual 0 with
-// b < 0 is held to document 02, item 3, read here too; how many were is told at the end.
+// greatest, which the crate does not have. Two things are held to document 02 instead, read here too, and
+// how many were is told at the end: a second-order step along a direction of residual 0 with b < 0 (item
+// 3), and what is stored after a late false of a scaling: the files write w and eta there, and here all
+// must keep its bits (item 4).
 //
 // First each call is spoiled on purpose, in up to five ways, and must be reported; the call that SPOIL
 // names has its last bit turned throughout, which shows what a difference looks like. The first
@@ -48,13 +50,15 @@ impl Square {
     }
 }
 
-// Vectors, numbers, single lent numbers, one lent byte, and the square that one call answers.
+// Vectors, numbers, single lent numbers, one lent byte, the marks of a list, and the square that one call
+// answers.
 #[derive(Clone)]
 pub struct Lent {
     pub v: Vec<Vec<f64>>,
     pub a: Vec<f64>,
     pub o: Vec<f64>,
     pub t: u8,
+    pub m: Vec<u8>,
     pub rows: [[f64; 4]; 4],
 }
 
@@ -64,15 +68,17 @@ pub struct Places {
     pub a: Vec<f64>,
     pub o: Vec<P>,
     pub t: *mut u8,
+    pub m: (*mut u8, usize),
     pub rows: [[f64; 4]; 4],
 }
 
-// What a call of the files leaves as it was, beyond its const arguments.
+// What is left as it was, beyond the const arguments: nothing; all; or all here, where the files have
+// written.
 #[derive(Clone, Copy, PartialEq)]
 pub enum Kept {
     Nothing,
-    AllButWAndEta,
     All,
+    AllButByTheFiles,
 }
 
 pub enum Rust {
@@ -85,7 +91,7 @@ pub enum Rust {
 #[derive(Clone, Copy)]
 pub struct Name {
     pub name: &'static str,
-    written: bool,
+    pub written: bool,
     loose: bool,
 }
 
@@ -221,12 +227,14 @@ impl Call {
             return due;
         }
         let kept = self.files(&mut due.lent);
+        if kept == Kept::AllButByTheFiles {
+            (due.lent.v, due.lent.o) = (l.v.clone(), l.o.clone());
+        }
         let n = l.v.get(self.dimension()).map_or(0, |x| x.len());
         let dense = matches!(self.rust, Rust::Soc(_)) && n <= 4;
         let equal = |name: &Name| match name {
             Name { written: false, .. } => Equal::Bits,
-            _ if kept == Kept::All => Equal::Bits,
-            _ if kept == Kept::AllButWAndEta && !["w", "eta"].contains(&name.name) => Equal::Bits,
+            _ if kept != Kept::Nothing => Equal::Bits,
             _ if dense && ["u", "v", "d"].contains(&name.name) => Equal::Bits,
             Name { loose: true, .. } => Equal::Value,
             _ => Equal::Number,
@@ -289,7 +297,7 @@ impl Due {
 // ---- the calls
 
 // The arguments in C's order: v k is a vector's pointer and length, a k a number, o k a lent number,
-// t the lent byte.
+// t the lent byte, m the marks' pointer and length.
 macro_rules! native {
     ($f:ident $($words:tt)*) => { |_l: &mut Places| native!(@ _l $f () () $($words)*) };
     (@ $l:ident $f:ident ($($x:expr),*) ($($t:ty),*)) => {{
@@ -307,6 +315,9 @@ macro_rules! native {
     };
     (@ $l:ident $f:ident ($($x:expr),*) ($($t:ty),*) t $($words:tt)*) => {
         native!(@ $l $f ($($x,)* $l.t) ($($t,)* *mut u8) $($words)*)
+    };
+    (@ $l:ident $f:ident ($($x:expr),*) ($($t:ty),*) m $($words:tt)*) => {
+        native!(@ $l $f ($($x,)* $l.m.0, $l.m.1) ($($t,)* *mut u8, usize) $($words)*)
     };
 }
 
@@ -381,14 +392,15 @@ fn mended(x: &[f64], y: &[f64], limit: f64) -> Option<f64> {
     (a == 0.0 && b < 0.0).then(|| least(limit, -c / b))
 }
 
-// Document 01, "Scaling": an early false changes nothing, a late one has written η and w.
+// Document 01, "Scaling": of an early false the files change nothing, of a late one they have written η
+// and w. Document 02, item 4: of either nothing is changed.
 fn update(c: &mut Soc, s: &[f64], z: &[f64], t: &mut u8) -> Kept {
     let told = c.update_scaling(s, z, 0.0, ScalingStrategy::PrimalDual);
     *t = told as u8;
     match told {
         true => Kept::Nothing,
         false if sqrt_soc_residual(z) == 0.0 || sqrt_soc_residual(s) == 0.0 => Kept::All,
-        false => Kept::AllButWAndEta,
+        false => Kept::AllButByTheFiles,
     }
 }
 
@@ -563,8 +575,8 @@ pub fn all() -> Vec<Call> {
 // ---- both sides of a call, and their differences
 
 // How a result is spoiled on purpose: a last bit of what was written, a number behind the end of a
-// buffer, a number that was not to be written, the same of a refused call, the refusal's number, and
-// the last bit of the last lent number.
+// buffer, a number that was not to be written, the same of a refused call, the refusal's number, the last
+// bit of the last lent number, the first and the last mark, and the byte behind the marks.
 #[derive(Clone, Copy, Debug, PartialEq)]
 pub enum Spoil {
     Nothing,
@@ -574,6 +586,9 @@ pub enum Spoil {
     Refused,
     Number,
     One,
+    Mark,
+    LastMark,
+    BehindMarks,
 }
 
 const GUARD: u64 = 0x7ff4_dead_beef_0000;
@@ -608,6 +623,7 @@ pub fn lend(
     let base = memory.as_mut_ptr();
     let mut t = BESIDE;
     t[1] = l.t;
+    let mut m = [&BESIDE[..1], &l.m, &BESIDE[2..]].concat();
     let mut at = GUARDS;
     let mut place = |n: usize| {
         let p = unsafe { base.add(at) };
@@ -621,6 +637,7 @@ pub fn lend(
         a: l.a.clone(),
         o,
         t: unsafe { t.as_mut_ptr().add(1) },
+        m: (unsafe { m.as_mut_ptr().add(1) }, l.m.len()),
         rows: l.rows,
     };
     let mut no = native(&mut places);
@@ -629,6 +646,7 @@ pub fn lend(
 
     let mut at = 0;
     let mut guards = t[0] == BESIDE[0] && t[2] == BESIDE[2];
+    guards &= m[0] == BESIDE[0] && m[l.m.len() + 1] == BESIDE[2];
     let mut next = |n: usize| {
         guards &= memory[at..at + GUARDS].iter().all(|x| x.to_bits() == GUARD);
         at += GUARDS;
@@ -646,6 +664,7 @@ pub fn lend(
             a: l.a.clone(),
             o,
             t: t[1],
+            m: m[1..=l.m.len()].to_vec(),
             rows,
         },
         guards,
@@ -658,6 +677,10 @@ fn spoiled(no: &mut u8, l: &mut Places, due: &Due, spoil: Spoil) {
         Spoil::Nothing => {}
         Spoil::Number => *no ^= 1,
         Spoil::One => l.o.last().into_iter().for_each(|p| turn(*p)),
+        Spoil::Mark | Spoil::LastMark if l.m.1 == 0 => {}
+        Spoil::Mark => unsafe { *l.m.0 ^= 1 },
+        Spoil::LastMark => unsafe { *l.m.0.add(l.m.1 - 1) ^= 2 },
+        Spoil::BehindMarks => unsafe { *l.m.0.add(l.m.1) = 2 },
         Spoil::Guard => {
             if let Some((p, n)) = l.v.last() {
                 unsafe { *p.add(*n) = 0.0 };
@@ -696,15 +719,16 @@ fn bits(x: f64, y: f64) -> bool {
     x.to_bits() == y.to_bits()
 }
 
-// What a comparison came to: the refusal that is due, whether all that was written is a number, and
-// the first difference if there is one.
+// What a comparison came to: the refusal that is due, whether all that was written is a number, the first
+// difference if there is one, and what all is afterwards, the marks as they are due.
 pub struct Verdict {
     pub due: u8,
     pub numbers: bool,
     pub first: Option<String>,
+    pub left: Lent,
 }
 
-pub fn compare(v: &[Name], o: &[Name], due: &Due, found: &Found) -> Verdict {
+pub fn compare(v: &[Name], o: &[Name], due: &Due, found: Found) -> Verdict {
     let told_of = |what: String, x: f64, y: f64| {
         format!(
             "{what}: {x:?} ({:#018x}), and it should be {y:?} ({:#018x})",
@@ -743,6 +767,10 @@ pub fn compare(v: &[Name], o: &[Name], due: &Due, found: &Found) -> Verdict {
                 found.lent.t, told.t
             ));
         }
+        if let Some(k) = (0..told.m.len()).find(|k| found.lent.m[*k] != told.m[*k]) {
+            let (x, y) = (found.lent.m[k], told.m[k]);
+            return Some(format!("marks[{k}]: {x}, and it should be {y}"));
+        }
         for (row, col) in (0..16).map(|k| (k / 4, k % 4)).filter(|_| due.square) {
             let (x, y) = (found.lent.rows[row][col], told.rows[row][col]);
             if !Equal::Number.holds(x, y) {
@@ -762,6 +790,10 @@ pub fn compare(v: &[Name], o: &[Name], due: &Due, found: &Found) -> Verdict {
         due: due.no,
         numbers,
         first: first(),
+        left: Lent {
+            m: told.m.clone(),
+            ..found.lent
+        },
     }
 }
 
@@ -807,15 +839,27 @@ pub fn way(call: &Call, l: &Lent) -> Option<&'static str> {
     }
 }
 
-// How many steps of a call fall under document 02, item 3, and of how many the files say otherwise.
+// How many steps of a call fall under document 02, item 3, and of how many the files say otherwise; how
+// many scalings end in a late false, and of how many the files change what is stored.
 #[derive(Clone, Copy, Default)]
 pub struct Mended {
     pub steps: u64,
     pub other: u64,
+    pub late: u64,
+    pub changed: u64,
 }
 
 impl Mended {
     pub fn count(&mut self, call: &Call, l: &Lent) {
+        if call.name == "akm_soc_update_scaling" {
+            let mut after = l.clone();
+            if call.files(&mut after) == Kept::AllButByTheFiles {
+                let numbers = |l: &Lent| [&l.v.concat()[..], &l.o].concat();
+                self.late += 1;
+                self.changed += std::iter::zip(numbers(&after), numbers(l))
+                    .any(|(x, y)| !Equal::Number.holds(x, y)) as u64;
+            }
+        }
         let at = |name| find(&call.v, name).map(|k| &l.v[k]);
         let limit = find(&call.a, "limit").filter(|_| matches!(call.rust, Rust::Soc(_)));
         let Some(limit) = limit.map(|k| l.a[k]) else {
@@ -834,8 +878,14 @@ impl Mended {
     }
 
     pub fn print(&self) {
-        let Mended { steps, other } = self;
+        let Mended {
+            steps,
+            other,
+            late,
+            changed,
+        } = self;
         println!("{steps} steps with a = 0 and b < 0, held to document 02; of {other} the files say otherwise");
+        println!("{late} late falses, held to document 02; of {changed} the files change what is stored");
     }
 }
 
@@ -1088,6 +1138,7 @@ impl Random {
                 .collect(),
             o: call.o.iter().map(|_| self.number(taste)).collect(),
             t: self.bits() as u8,
+            m: vec![],
             rows: [[f64::NAN; 4]; 4],
         };
         for k in 0..call.v.len() {
@@ -1293,12 +1344,14 @@ pub fn print(v: &[Name], a: &[Name], o: &[Name], l: &Lent) {
 
 // ---- a run
 
-// A call that is compared.
+// A call that is compared. `Left` is what earlier calls have left, where a later one can go on from that.
 pub trait Compared {
     type Input;
+    type Left: Default;
     fn name(&self) -> &str;
     fn spoils(&self) -> Vec<Spoil>;
-    fn input(&self, random: &mut Random) -> Self::Input;
+    fn input(&self, random: &mut Random, left: &mut Self::Left) -> Self::Input;
+    fn leave(&self, _input: &Self::Input, _verdict: Verdict, _left: &mut Self::Left) {}
     fn verdict(&self, input: &Self::Input, memory: &mut Vec<f64>, spoil: Spoil) -> Verdict;
     fn shrink(
         &self,
@@ -1310,6 +1363,7 @@ pub trait Compared {
 
 impl Compared for Call {
     type Input = Lent;
+    type Left = ();
 
     fn name(&self) -> &str {
         self.name
@@ -1326,14 +1380,14 @@ impl Compared for Call {
         spoils
     }
 
-    fn input(&self, random: &mut Random) -> Lent {
+    fn input(&self, random: &mut Random, _: &mut ()) -> Lent {
         random.lent(self)
     }
 
     fn verdict(&self, l: &Lent, memory: &mut Vec<f64>, spoil: Spoil) -> Verdict {
         let due = self.due(l);
         let found = lend(l, memory, self.native, &due, spoil);
-        compare(&self.v, &self.o, &due, &found)
+        compare(&self.v, &self.o, &due, found)
     }
 
     fn shrink(&self, l: Lent, fails: &mut dyn FnMut(&Lent) -> bool) -> Lent {
@@ -1369,10 +1423,10 @@ pub fn run<C: Compared>(
     let (mut spoiled, mut missed) = (0, 0);
     for call in calls {
         for spoil in call.spoils() {
-            let mut random = Random(seed);
+            let (mut random, mut left) = (Random(seed), C::Left::default());
             // a nonnegative cone of one vector is refused from 4,097 entries on, which are rare
             let reported = (0..400_000).any(|_| {
-                let input = call.input(&mut random);
+                let input = call.input(&mut random, &mut left);
                 let mut reports = |spoil| call.verdict(&input, &mut memory, spoil).first.is_some();
                 reports(spoil) && !reports(Spoil::Nothing)
             });
@@ -1386,12 +1440,12 @@ pub fn run<C: Compared>(
     println!("{spoiled} results spoiled on purpose, {missed} not reported");
     failed += missed;
 
-    let mut random = Random(seed);
+    let (mut random, mut left) = (Random(seed), C::Left::default());
     let mut printed = vec![false; calls.len()];
     for k in 0..count {
         let at = k as usize % calls.len();
         let call = &calls[at];
-        let input = call.input(&mut random);
+        let input = call.input(&mut random, &mut left);
         let spoil = if call.name() == spoiled_call {
             Spoil::Bit
         } else {
@@ -1401,6 +1455,7 @@ pub fn run<C: Compared>(
         seen(at, &input, &verdict);
         if verdict.first.is_none() {
             passed += 1;
+            call.leave(&input, verdict, &mut left);
             continue;
         }
         failed += 1;

@@ -1,8 +1,9 @@
 // Writes recorded cases for the program replay, and what it must write of them: docs/CASES.md has the
 // format. The answers are what compare/calls.rs and compare/lists.rs hold the exports to: those of the
-// crate's three files over the stand-in, document 01's refusals, and the step that document 02, item 3,
-// mends. A case whose answer hangs on which of two opposite zeros a least or greatest takes is left out,
-// since Rust may take either. The same cases are written in every run.
+// crate's three files over the stand-in, document 01's refusals, and what document 02 has changed: the
+// step of item 3, the late false and the marks of item 4. A case whose answer hangs on which of two
+// opposite zeros a least or greatest takes is left out, since Rust may take either. The same cases are
+// written in every run.
 //
 // cases STDIN STDOUT
 #![allow(confusable_idents, mixed_script_confusables, uncommon_codepoints)]
@@ -120,11 +121,14 @@ fn lent(name: &Name) -> bool {
     ["eta", "d"].contains(&name.name)
 }
 
-fn slices(o: &[Name], l: &Lent) -> Vec<Vec<f64>> {
+// The marks of a call that is lent them are its last slice, each a word and so the double with its bits.
+fn slices(o: &[Name], l: &Lent, marked: bool) -> Vec<Vec<f64>> {
     let ones = std::iter::zip(o, &l.o).filter(|(name, _)| lent(name));
+    let marks = l.m.iter().map(|mark| f64::from_bits(u64::from(*mark)));
     l.v.iter()
         .cloned()
         .chain(ones.map(|(_, x)| vec![*x]))
+        .chain(marked.then(|| marks.collect()))
         .collect()
 }
 
@@ -137,7 +141,7 @@ fn number(text: &mut String, x: f64) {
 
 // The refusal's number, the answer's values, and what the slices hold. A refusal has no values, but for the
 // square block a matrix of +0.
-fn answer(name: &str, o: &[Name], due: &Due) -> String {
+fn answer(name: &str, o: &[Name], due: &Due, marked: bool) -> String {
     let mut text = due.no.to_string();
     if due.no == 0 {
         let value = |name: &Name| !lent(name) && name.name != "cone";
@@ -155,9 +159,15 @@ fn answer(name: &str, o: &[Name], due: &Due) -> String {
         let rows = due.lent.rows.iter().flatten();
         rows.for_each(|x| number(&mut text, if due.no == 0 { *x } else { 0.0 }));
     }
-    for x in slices(o, &due.lent) {
+    for x in slices(o, &due.lent, false) {
         text.push_str(" |");
         x.iter().for_each(|x| number(&mut text, *x));
+    }
+    if marked {
+        text.push_str(" |");
+        for mark in &due.lent.m {
+            write!(text, " {mark}").unwrap();
+        }
     }
     text
 }
@@ -170,6 +180,10 @@ trait Recorded: Compared {
     fn answer(&self, input: &Self::Input) -> String;
     // which way it took, and of how many entries
     fn drawer(&self, input: &Self::Input) -> String;
+    // the mark that is refused, and of which kind of cone
+    fn unfit(&self, _input: &Self::Input) -> String {
+        String::new()
+    }
 }
 
 impl Recorded for Call {
@@ -179,12 +193,12 @@ impl Recorded for Call {
             a: l.a.clone(),
             k: 0,
             row: vec![],
-            slices: slices(&self.o, l),
+            slices: slices(&self.o, l, false),
         }
     }
 
     fn answer(&self, l: &Lent) -> String {
-        answer(self.name, &self.o, &self.due(l))
+        answer(self.name, &self.o, &self.due(l), false)
     }
 
     fn drawer(&self, l: &Lent) -> String {
@@ -206,12 +220,17 @@ impl Recorded for Listed<'_> {
             a: input.lent.a.clone(),
             k: input.k,
             row: input.row.iter().map(record).collect(),
-            slices: input.lent.v.clone(),
+            slices: slices(&[], &input.lent, self.marked()),
         }
     }
 
     fn answer(&self, input: &Input) -> String {
-        answer(self.name, &self.o, &self.due(input))
+        answer(self.name, &self.o, &self.due(input), self.marked())
+    }
+
+    fn unfit(&self, input: &Input) -> String {
+        let mark = input.lent.m[input.k];
+        format!("{} {}", input.row[input.k].kind, mark.min(3))
     }
 
     fn drawer(&self, input: &Input) -> String {
@@ -221,7 +240,11 @@ impl Recorded for Listed<'_> {
             return format!("{end:?}");
         }
         let cone = |c: &lists::Record| (c.kind, c.dimension.min(6));
-        format!("{:?}", input.row.get(input.k).map(cone))
+        format!(
+            "{:?} {:?}",
+            input.row.get(input.k).map(cone),
+            self.way(input.k, input)
+        )
     }
 }
 
@@ -230,7 +253,7 @@ impl Recorded for Listed<'_> {
 struct Drawers {
     lines: Vec<(String, String)>,
     drawers: BTreeMap<(u64, String), usize>,
-    refusals: [usize; 8],
+    refusals: [usize; 9],
     left_out: usize,
 }
 
@@ -247,6 +270,7 @@ impl Drawers {
         let no = texts[0].as_bytes()[0] - b'0';
         let drawer = match no {
             0 => format!("{} {}", call.drawer(input), texts[0].contains("NaN")),
+            8 => format!("8 {}", call.unfit(input)),
             no => format!("{no} {}", case.row.len() > 8),
         };
         let kept = self.drawers.entry((case.call, drawer)).or_default();
@@ -282,7 +306,7 @@ fn edges(call: &Listed, random: &mut Random) -> Vec<Input> {
     ];
     let edge = |row| Input {
         row: tiled(row),
-        ..call.fitting(random, vec![], 0)
+        ..call.fitting(random, vec![], 0, None)
     };
     rows.into_iter().map(edge).collect()
 }
@@ -371,14 +395,14 @@ fn main() {
     let mut drawers = Drawers {
         lines: vec![],
         drawers: BTreeMap::new(),
-        refusals: [0; 8],
+        refusals: [0; 9],
         left_out: 0,
     };
     let mut random = Random(6);
     let bare = lists::calls::all();
     for call in &bare {
         for _ in 0..6000 {
-            drawers.offer(call, &call.input(&mut random));
+            drawers.offer(call, &call.input(&mut random, &mut ()));
         }
     }
     for call in &lists::all(&bare) {
@@ -386,7 +410,7 @@ fn main() {
             drawers.offer(call, &input);
         }
         for _ in 0..6000 {
-            drawers.offer(call, &call.input(&mut random));
+            drawers.offer(call, &call.single(&mut random));
         }
     }
 

@@ -6,6 +6,13 @@
 // or, where a = 0 and b < 0, document 02, item 3. The list's scaling is that of cone 0, 1, .. one by one
 // up to the first that tells false, whose index it tells too: document 02, item 1.
 //
+// Marks are document 02, item 4, read here: which call sets one, and which is refused on one, by what
+// the bare call of the cone's kind reads of what is stored. Every other call goes on from what earlier
+// calls have left of a list, so that the exports themselves have set its marks: such a list began
+// fresh, or with numbers of any kind and bytes that are no marks, and never with Identity or Scaled.
+// The marks that it should have are kept beside it by the rule alone, and all are compared after each
+// call. After a late false all must be as it was: what the files write there is not compared.
+//
 // Otherwise as compare/calls.rs, which is taken in as a module: results spoiled on purpose, SPOIL, the
 // first difference of a call with the smallest input found, and the last line 'N passed, M failed'.
 #![allow(confusable_idents, mixed_script_confusables, uncommon_codepoints)]
@@ -35,6 +42,14 @@ pub struct Record {
 const NONNEGATIVE: usize = 0;
 const SECOND_ORDER: usize = 1;
 
+// enum akm_mark; any other byte counts as fresh
+const FRESH: u8 = 0;
+const IDENTITY: u8 = 1;
+const SCALED: u8 = 2;
+
+// what is stored from call to call, beside the marks
+const STORED: [&str; 6] = ["w", "lambda", "u", "v", "eta", "d"];
+
 // the ways of a second-order scaling
 const TRUE: &str = "update_scaling: true";
 const FALSE: [&str; 2] = ["update_scaling: early false", "update_scaling: late false"];
@@ -51,6 +66,8 @@ pub struct Input {
     pub row: Vec<Record>,
     pub k: usize,
     pub lent: Lent,
+    // which of the lists begun it goes on with
+    pub begun: Option<usize>,
 }
 
 // The row in memory and the cone's index, for C.
@@ -86,19 +103,19 @@ pub fn all(bare: &[Call]) -> Vec<Listed<'_>> {
         akm_list_margins [v 0 o 0 o 1];
         akm_list_scaled_unit_shift [v 0 a 0];
         akm_list_unit_initialization [v 0 v 1];
-        akm_list_set_identity_scaling [v 0 v 1 v 2 v 3 v 4];
-        akm_list_update_scaling [v 0 v 1 v 2 v 3 v 4 v 5 v 6 v 7 t];
-        akm_list_get_hs [v 0 v 1 v 2 v 3];
-        akm_list_mul_hs [v 0 v 1 v 2 v 3];
-        akm_list_affine_ds [v 0 v 1];
-        akm_list_combined_ds_shift [v 0 v 1 v 2 a 0 v 3 v 4];
-        akm_list_ds_from_dz_offset [v 0 v 1 v 2 v 3 v 4 v 5];
+        akm_list_set_identity_scaling [v 0 v 1 v 2 v 3 v 4 m];
+        akm_list_update_scaling [v 0 v 1 v 2 v 3 v 4 v 5 v 6 v 7 m t];
+        akm_list_get_hs [v 0 v 1 v 2 v 3 m];
+        akm_list_mul_hs [v 0 v 1 v 2 v 3 m];
+        akm_list_affine_ds [v 0 v 1 m];
+        akm_list_combined_ds_shift [v 0 v 1 v 2 a 0 v 3 v 4 m];
+        akm_list_ds_from_dz_offset [v 0 v 1 v 2 v 3 v 4 v 5 m];
         akm_list_step_length [v 0 v 1 v 2 v 3 a 0 o 0 o 1];
-        akm_list_mul_w [v 0 v 1 a 0 a 1 v 2 v 3];
-        akm_list_mul_winv [v 0 v 1 a 0 a 1 v 2 v 3];
+        akm_list_mul_w [v 0 v 1 a 0 a 1 v 2 v 3 m];
+        akm_list_mul_winv [v 0 v 1 a 0 a 1 v 2 v 3 m];
         akm_list_circ_op [v 0 v 1 v 2];
         akm_list_inv_circ_op [v 0 v 1 v 2];
-        akm_list_lambda_inv_circ_op [v 0 v 1 v 2];
+        akm_list_lambda_inv_circ_op [v 0 v 1 v 2 m];
         akm_list_standing [v 0 t];
         // end
     ];
@@ -113,13 +130,14 @@ pub fn all(bare: &[Call]) -> Vec<Listed<'_>> {
                 w_len: usize,
                 eta: P,
                 eta_len: usize,
+                marks: *mut u8,
+                marks_len: usize,
             );
         }
-        let ((w, w_len), (eta, eta_len)) = (l.v[0], l.v[1]);
+        let ((w, n), (eta, cones), (m, m_len)) = (l.v[0], l.v[1], l.m);
+        let Row { list, length, k } = *row;
         let mut square = Square::spoiled();
-        unsafe {
-            akm_list_square_hs(&mut square, row.list, row.length, row.k, w, w_len, eta, eta_len)
-        };
+        unsafe { akm_list_square_hs(&mut square, list, length, k, w, n, eta, cones, m, m_len) };
         l.rows = square.rows;
         square.no
     }));
@@ -127,7 +145,7 @@ pub fn all(bare: &[Call]) -> Vec<Listed<'_>> {
         native!(@ l akm_whole_step_length (row.list, row.length) (*mut Record, usize) v 0 v 1 v 2 v 3 a 0 o 0 o 1)
     }));
     all.push(Listed::new(bare, "akm_whole_update_scaling", |row, l| {
-        native!(@ l akm_whole_update_scaling (row.list, row.length) (*mut Record, usize) v 0 v 1 v 2 v 3 v 4 v 5 v 6 v 7 t o 0)
+        native!(@ l akm_whole_update_scaling (row.list, row.length) (*mut Record, usize) v 0 v 1 v 2 v 3 v 4 v 5 v 6 v 7 m t o 0)
     }));
     all
 }
@@ -197,6 +215,34 @@ impl<'a> Listed<'a> {
         self.name == "akm_list_square_hs"
     }
 
+    // Document 02, item 4: what stores or reads w or lambda is lent the marks.
+    pub fn marked(&self) -> bool {
+        ["w", "lambda"]
+            .iter()
+            .any(|name| find(&self.soc.v, name).is_some())
+    }
+
+    // Document 02, item 4: what reads stored w, η or d is refused on a fresh cone, what reads lambda
+    // unless the cone is scaled.
+    fn unfit(&self, c: &Record, mark: u8) -> bool {
+        let call = self.of(c).unwrap_or(self.soc);
+        let reads = |name: &str| {
+            let mut lent = call.v.iter().chain(&call.o);
+            lent.any(|x| x.name == name && !x.written)
+        };
+        let fresh = ![IDENTITY, SCALED].contains(&mark);
+        reads("lambda") && mark != SCALED || ["w", "eta", "d"].into_iter().any(reads) && fresh
+    }
+
+    // Document 02, item 4: the mark that the call on cone k sets, by what it has told.
+    fn mark(&self, k: usize, due: &mut Due) {
+        match self.soc.name {
+            "akm_soc_set_identity_scaling" => due.lent.m[k] = IDENTITY,
+            "akm_soc_update_scaling" if due.lent.t == 1 => due.lent.m[k] = SCALED,
+            _ => {}
+        }
+    }
+
     // the bare call of the cone's kind
     fn of(&self, c: &Record) -> Option<&'a Call> {
         match c.kind {
@@ -227,7 +273,7 @@ impl<'a> Listed<'a> {
     }
 
     fn refusal(&self, input: &Input) -> u8 {
-        let Input { row, k, lent } = input;
+        let Input { row, k, lent, .. } = input;
         let no = refusal_of_row(row);
         if no > 0 {
             return no;
@@ -241,7 +287,13 @@ impl<'a> Listed<'a> {
         if (0..self.v.len()).any(|j| lent.v[j].len() != self.length(j, row)) {
             return 5;
         }
-        self.soc.limit_refusal(lent)
+        if self.marked() && lent.m.len() != row.len() {
+            return 5;
+        }
+        match self.soc.limit_refusal(lent) {
+            0 if self.marked() && !self.whole() && self.unfit(&row[*k], lent.m[*k]) => 8,
+            no => no,
+        }
     }
 
     // What the bare call of cone k is lent, and put back.
@@ -263,6 +315,7 @@ impl<'a> Listed<'a> {
             o: call.o.iter().map(one).collect(),
             a: lent.a.clone(),
             t: lent.t,
+            m: vec![],
             rows: lent.rows,
         }
     }
@@ -305,6 +358,7 @@ impl<'a> Listed<'a> {
             }
         }
         due.told = own.told;
+        self.mark(k, due);
     }
 
     // Document 02, item 1. A cone's index is told with a false only: else what was lent is left.
@@ -319,14 +373,20 @@ impl<'a> Listed<'a> {
         }
     }
 
+    // Which way the scaling of cone k takes.
+    pub fn way(&self, k: usize, input: &Input) -> Option<&'static str> {
+        let call = self.of(input.row.get(k)?)?;
+        match self.soc.name {
+            "akm_soc_update_scaling" => {
+                Some(way(call, &self.taken(call, &input.row, k, &input.lent)).unwrap_or(TRUE))
+            }
+            _ => None,
+        }
+    }
+
     // The cone at which the list's scaling ends, and which of its two falses that tells.
     pub fn end(&self, input: &Input) -> Option<(usize, &'static str)> {
-        let Input { row, lent, .. } = input;
-        (0..row.len()).find_map(|k| {
-            let call = self.of(&row[k])?;
-            let way = way(call, &self.taken(call, row, k, lent))?;
-            (way != TRUE).then_some((k, way))
-        })
+        (0..input.row.len()).find_map(|k| Some((k, self.way(k, input).filter(|way| *way != TRUE)?)))
     }
 
     // Document 01: each cone gets the caller's limit, and each side's least is the answer.
@@ -348,13 +408,20 @@ impl<'a> Listed<'a> {
         }
     }
 
-    // the steps of the cone that is named, or of all
-    fn count(&self, input: &Input, mended: &mut Mended) {
-        let cones = match self.whole() {
-            true => 0..input.row.len(),
-            false => input.k..input.k + 1,
+    // the cone that is named, or all; of the list's scaling those up to its end
+    fn reached(&self, input: &Input) -> Range<usize> {
+        let end = match self.scaling() {
+            true => self.end(input).map(|(k, _)| k + 1),
+            false => None,
         };
-        for k in cones.filter(|_| find(&self.soc.a, "limit").is_some()) {
+        match self.whole() {
+            true => 0..end.unwrap_or(input.row.len()),
+            false => input.k..input.k + 1,
+        }
+    }
+
+    fn count(&self, input: &Input, mended: &mut Mended) {
+        for k in self.reached(input) {
             if let Some(call) = self.of(&input.row[k]) {
                 mended.count(call, &self.taken(call, &input.row, k, &input.lent));
             }
@@ -476,21 +543,152 @@ fn ways(random: &mut Random, row: &[Record]) -> Vec<Option<&'static str>> {
     ways
 }
 
+// Bytes as marks, fit ones for the most part, or none.
+fn byte(random: &mut Random) -> u8 {
+    match random.below(16) {
+        0..=1 => FRESH,
+        2..=5 => IDENTITY,
+        6..=13 => SCALED,
+        _ => no_mark(random),
+    }
+}
+
+fn no_mark(random: &mut Random) -> u8 {
+    [3, 3, 255, 255, 128, 3 + random.below(253) as u8][random.below(6)]
+}
+
+// A list as the calls made so far have left it.
+struct Begun {
+    row: Vec<Record>,
+    stored: [Vec<f64>; 6],
+    marks: Vec<u8>,
+    calls: usize,
+}
+
+impl Begun {
+    fn new(random: &mut Random) -> Begun {
+        let row = row(random);
+        let entries: usize = row.iter().map(|c| c.dimension).sum();
+        let fresh = random.below(3) > 0;
+        let stored = STORED.map(|name| {
+            let n = match name {
+                "eta" | "d" => row.len(),
+                _ => entries,
+            };
+            match fresh {
+                true => vec![(name == "d") as u8 as f64; n],
+                false => (0..n).map(|_| random.number(Taste::Mixed)).collect(),
+            }
+        });
+        let mark = |_: &Record| match fresh || random.one_in(4) {
+            true => FRESH,
+            false => no_mark(random),
+        };
+        Begun {
+            marks: row.iter().map(mark).collect(),
+            row,
+            stored,
+            calls: 10 + random.below(90),
+        }
+    }
+}
+
+// So many are open at a time, and a call takes any: what is made of one list, and in which order, is
+// left to chance.
+#[derive(Default)]
+pub struct Open(Vec<Begun>);
+
+impl Open {
+    const MOST: usize = 32;
+}
+
 impl Listed<'_> {
-    // The numbers of a cone that the call reads go together; the others are of any kind.
-    pub fn fitting(&self, random: &mut Random, row: Vec<Record>, k: usize) -> Input {
+    // A list that an earlier call has left, or a new one.
+    fn next(&self, random: &mut Random, open: &mut Open) -> Input {
+        let at = random.below(Open::MOST);
+        while open.0.len() <= at {
+            open.0.push(Begun::new(random));
+        }
+        if open.0[at].calls == 0 {
+            open.0[at] = Begun::new(random);
+        }
+        let list = &mut open.0[at];
+        list.calls -= 1;
+        let k = random.below(list.row.len().max(1));
+        let mut input = self.fitting(random, list.row.clone(), k, Some(at));
+        for (name, x) in std::iter::zip(STORED, &list.stored) {
+            if let Some(j) = find(&self.v, name) {
+                input.lent.v[j].clone_from(x);
+            }
+        }
+        input.lent.m.clone_from(&list.marks);
+        input
+    }
+
+    // any list, whatever earlier calls have left
+    pub fn single(&self, random: &mut Random) -> Input {
+        let row = row(random);
+        let k = random.below(row.len().max(1));
+        let input = self.fitting(random, row, k, None);
+        self.damaged(random, input)
+    }
+
+    fn damaged(&self, random: &mut Random, mut input: Input) -> Input {
+        let mut aside = Random(!random.0);
+        if random.one_in(6) {
+            damage_row(random, &mut input.row);
+        }
+        if random.one_in(12) {
+            let (n, k) = (input.row.len(), input.k);
+            input.k = [n, n + 1, 256, k | 1 << 32, k | 1 << 63, usize::MAX][random.below(6)];
+        }
+        if random.one_in(6) {
+            self.damage_length(random, &mut input.lent);
+        }
+        if self.marked() && aside.one_in(16) {
+            let n = input.lent.m.len();
+            let length = [n.saturating_sub(1), n + 1, 0, aside.below(14)][aside.below(4)];
+            let more = byte(&mut aside);
+            input.lent.m.resize(length, more);
+        }
+        input
+    }
+
+    // The numbers of a cone that the call reads go together; the others are of any kind. The marks are
+    // drawn aside, so that they change no other draw.
+    pub fn fitting(
+        &self,
+        random: &mut Random,
+        row: Vec<Record>,
+        k: usize,
+        begun: Option<usize>,
+    ) -> Input {
+        let mut aside = Random(!random.0);
+        let m = row.iter().map(|_| byte(&mut aside)).collect();
         let taste = [Taste::Any, Taste::Any, Taste::Any, Taste::Special][random.below(4)];
         let v = (0..self.v.len()).map(|j| self.length(j, &row));
         let v = v.map(|n| (0..n).map(|_| random.number(taste)).collect());
         let v = v.collect();
         let o = self.o.iter().map(|_| random.number(taste)).collect();
         let Lent { a, t, rows, .. } = random.fitting(self.soc, 2);
-        let mut lent = Lent { v, a, o, t, rows };
+        let mut lent = Lent {
+            v,
+            a,
+            o,
+            t,
+            m,
+            rows,
+        };
         let mut wanted = vec![None; row.len()];
         if self.scaling() {
             // no index of a list, and no byte of it that of a small number
             lent.o[0] = f64::from_bits(random.bits() | 0x8080_8080_8080_8080);
             wanted = ways(random, &row);
+        } else if self.name == "akm_list_update_scaling"
+            && begun.is_some()
+            && row.get(k).is_some_and(|c| c.kind == SECOND_ORDER)
+        {
+            wanted[k] = Some([TRUE, FALSE[0], FALSE[1]][random.below(3)]);
         }
         for i in 0..row.len() {
             let named = self.whole() || i == k;
@@ -507,7 +705,12 @@ impl Listed<'_> {
                 lent.a = own.a;
             }
         }
-        Input { row, k, lent }
+        Input {
+            row,
+            k,
+            lent,
+            begun,
+        }
     }
 
     // lengths that may be wrong
@@ -544,6 +747,9 @@ impl Listed<'_> {
         if dimension.is_none() {
             cut.row.remove(i);
             cut.k -= (cut.k > i) as usize;
+            if i < cut.lent.m.len() {
+                cut.lent.m.remove(i);
+            }
         }
         cut
     }
@@ -551,6 +757,7 @@ impl Listed<'_> {
 
 impl Compared for Listed<'_> {
     type Input = Input;
+    type Left = Open;
 
     fn name(&self) -> &str {
         self.name
@@ -567,24 +774,37 @@ impl Compared for Listed<'_> {
         if self.scaling() {
             spoils.push(Spoil::One);
         }
+        if self.marked() {
+            spoils.extend([Spoil::Mark, Spoil::LastMark, Spoil::BehindMarks]);
+        }
         spoils
     }
 
-    fn input(&self, random: &mut Random) -> Input {
-        let row = row(random);
-        let k = random.below(row.len().max(1));
-        let mut input = self.fitting(random, row, k);
-        if random.one_in(6) {
-            damage_row(random, &mut input.row);
+    fn input(&self, random: &mut Random, open: &mut Open) -> Input {
+        match random.one_in(2) {
+            true => self.single(random),
+            false => {
+                let input = self.next(random, open);
+                self.damaged(random, input)
+            }
         }
-        if random.one_in(12) {
-            let n = input.row.len();
-            input.k = [n, n + 1, 256, k | 1 << 32, k | 1 << 63, usize::MAX][random.below(6)];
+    }
+
+    // A damaged row is another list.
+    fn leave(&self, input: &Input, verdict: Verdict, open: &mut Open) {
+        let begun = input.begun.map(|at| &mut open.0[at]);
+        let Some(list) = begun.filter(|list| verdict.due == 0 && list.row == input.row) else {
+            return;
+        };
+        let Lent { mut v, m, .. } = verdict.left;
+        for (name, x) in std::iter::zip(STORED, &mut list.stored) {
+            if let Some(j) = find(&self.v, name) {
+                std::mem::swap(x, &mut v[j]);
+            }
         }
-        if random.one_in(6) {
-            self.damage_length(random, &mut input.lent);
+        if self.marked() {
+            list.marks = m;
         }
-        input
     }
 
     fn verdict(&self, input: &Input, memory: &mut Vec<f64>, spoil: Spoil) -> Verdict {
@@ -597,7 +817,7 @@ impl Compared for Listed<'_> {
         };
         let native = |l: &mut Places| (self.native)(&place, l);
         let found = calls::lend(&input.lent, memory, native, &due, spoil);
-        let mut verdict = calls::compare(&self.v, &self.o, &due, &found);
+        let mut verdict = calls::compare(&self.v, &self.o, &due, found);
         if row != [&[GUARD], &input.row[..], &[GUARD]].concat() {
             verdict.first = Some("the row of records was written to".to_string());
         }
@@ -629,12 +849,21 @@ impl Compared for Listed<'_> {
                     smaller = true;
                 }
             }
+            for (i, mark) in (0..input.lent.m.len()).flat_map(|i| [(i, SCALED), (i, FRESH)]) {
+                let mut other = input.clone();
+                other.lent.m[i] = mark;
+                if input.lent.m[i] > mark && fails(&other) {
+                    input = other;
+                    smaller = true;
+                }
+            }
             let (row, k) = (input.row.clone(), input.k);
             let mut fails = |lent: &Lent| {
                 fails(&Input {
                     row: row.clone(),
                     k,
                     lent: lent.clone(),
+                    begun: None,
                 })
             };
             if !calls::plainer(&mut input.lent, &mut fails) && !smaller {
@@ -661,7 +890,120 @@ impl Compared for Listed<'_> {
         if !self.whole() {
             println!("    k = {}", input.k);
         }
+        if self.marked() {
+            let marks = &input.lent.m;
+            let more = if marks.len() > 32 { ", .." } else { "" };
+            let shown = &marks[..marks.len().min(32)];
+            println!("    marks [{}] = {shown:?}{more}", marks.len());
+        }
         calls::print(&self.v, &self.soc.a, &self.o, &input.lent);
+    }
+}
+
+// How often a call, of either kind of cone, met each mark: where nothing but the mark decided, of the
+// list's scaling each cone that it reached. How often where earlier calls had left the list. How often an
+// unfit mark stood behind another refusal, by that; with 4, where no cone is named, no mark of the list
+// being set. And how often the marks' length alone was wrong, of them for the nonnegative offset.
+struct Met {
+    rows: Vec<(String, [[[u64; Met::MARKS.len()]; 2]; 2])>,
+    behind: [u64; 8],
+    length: [u64; 2],
+}
+
+impl Met {
+    const MARKS: [&'static str; 6] = ["0", "1", "2", "3", "255", "other"];
+
+    fn new(calls: &[Listed]) -> Met {
+        let rows = calls.iter().flat_map(|call| match call.soc.name {
+            "akm_soc_update_scaling" => [TRUE, FALSE[0], FALSE[1]]
+                .map(|way| row_of(call, Some(way)))
+                .to_vec(),
+            _ => vec![row_of(call, None)],
+        });
+        Met {
+            rows: rows.map(|name| (name, [[[0; 6]; 2]; 2])).collect(),
+            behind: [0; 8],
+            length: [0; 2],
+        }
+    }
+
+    fn count(&mut self, call: &Listed, input: &Input, due: u8) {
+        let Input { row, k, lent, .. } = input;
+        let cone = |k: usize| Some((row.get(k)?, *lent.m.get(k)?));
+        let unset = |mark: &u8| ![IDENTITY, SCALED].contains(mark);
+        if due == 5 && call.marked() {
+            let mut fit = input.clone();
+            fit.lent.m.resize(row.len(), SCALED);
+            if call.refusal(&fit) != 5 {
+                self.length[0] += 1;
+                self.length[1] += (!call.whole()
+                    && call.name.ends_with("offset")
+                    && row[*k].kind == NONNEGATIVE) as u64;
+            }
+        }
+        if ![0, 8].contains(&due) {
+            self.behind[due as usize] += match due {
+                4 => call.marked() && lent.m.iter().all(unset),
+                _ => cone(*k).is_some_and(|(c, mark)| call.unfit(c, mark)),
+            } as u64;
+            return;
+        }
+        for k in match due {
+            0 => call.reached(input),
+            _ => *k..k + 1,
+        } {
+            let Some((c, mark)) = cone(k) else {
+                continue;
+            };
+            let name = row_of(call, call.way(k, input));
+            let line = self.rows.iter_mut().find(|(row, _)| *row == name).unwrap();
+            let column = [0, 1, 2, 3, 255].iter().position(|x| *x == mark);
+            let column = column.unwrap_or(Met::MARKS.len() - 1);
+            line.1[0][1 - c.kind][column] += 1;
+            line.1[1][1 - c.kind][column] += input.begun.is_some() as u64;
+        }
+    }
+
+    fn print(&self) {
+        for (at, what) in [
+            "calls on a cone by its mark",
+            "of them where the calls themselves have left the list",
+        ]
+        .into_iter()
+        .enumerate()
+        {
+            print!("{what:56}");
+            for kind in ["s", "n"] {
+                (Met::MARKS.iter()).for_each(|mark| print!(" {:>8}", format!("{kind} {mark}")));
+            }
+            println!();
+            for (name, counts) in &self.rows {
+                print!("{name:56}");
+                for times in counts[at].iter().flatten() {
+                    match *times {
+                        0 => print!(" {:>8}", "-"),
+                        _ => print!(" {times:8}"),
+                    }
+                }
+                println!();
+            }
+        }
+        let behind: Vec<_> = (1..8)
+            .map(|no| format!("{no}: {}", self.behind[no]))
+            .collect();
+        println!(
+            "an unfit mark behind another refusal, by that: {}",
+            behind.join(", ")
+        );
+        let [all, offset] = self.length;
+        println!("refused with 5 for the marks alone: {all}, of them {offset} nonnegative offsets");
+    }
+}
+
+fn row_of(call: &Listed, way: Option<&str>) -> String {
+    match way {
+        Some(way) => format!("{}{}", call.name, way.trim_start_matches("update_scaling")),
+        None => call.name.to_string(),
     }
 }
 
@@ -704,7 +1046,7 @@ impl Ends {
     }
 }
 
-const COLUMNS: [&str; 12] = [
+const COLUMNS: [&str; 13] = [
     "done",
     "second-order",
     "nonnegative",
@@ -717,6 +1059,7 @@ const COLUMNS: [&str; 12] = [
     "5",
     "6",
     "7",
+    "8",
 ];
 
 fn main() {
@@ -724,8 +1067,10 @@ fn main() {
     let calls = all(&bare);
     let mut lines = vec![[0u64; COLUMNS.len()]; calls.len()];
     let (mut mended, mut ends) = (Mended::default(), Ends::default());
+    let mut met = Met::new(&calls);
     let (passed, failed) = calls::run(&calls, calls::arguments(3_000_000), |at, input, verdict| {
         let line = &mut lines[at];
+        met.count(&calls[at], input, verdict.due);
         match verdict.due {
             0 => {
                 line[0] += 1;
@@ -756,6 +1101,7 @@ fn main() {
                 "nonnegative" => call.whole() || call.square(),
                 "6" => find(&call.soc.a, "limit").is_none(),
                 "7" => !call.square(),
+                "8" => !call.marked(),
                 _ => false,
             };
             match none && times == 0 {
@@ -766,6 +1112,7 @@ fn main() {
         println!();
     }
     ends.print();
+    met.print();
     mended.print();
     println!("{passed} passed, {failed} failed");
     std::process::exit((failed > 0) as i32);

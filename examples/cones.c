@@ -56,13 +56,24 @@ int main(void) {
     akm_whole_step_length(list, 2, all_dz, ALL, all_ds, ALL, all_z, ALL, all_s, ALL, 1, &step_z, &step_s);
     printf("steps of the list %.17g and %.17g\n", step_z, step_s);
 
-    /* the whole list's scaling stops at the first cone that has none, as cone 1 for all_dz, which lies outside */
-    double all_w[ALL], all_lambda[ALL], all_u[ALL], all_v[ALL], all_eta[2], all_d[2];
-    size_t cone;
+    /* a product with w is refused on a fresh cone, and made once something has set its scaling */
+    double all_w[ALL], all_lambda[ALL], all_u[ALL], all_v[ALL], all_eta[2], all_d[2], all_y[ALL] = {0};
+    uint8_t marks[2] = {AKM_FRESH, AKM_FRESH};
     akm_fresh_state(all_w, ALL, all_lambda, ALL, all_u, ALL, all_v, ALL, all_eta, 2, all_d, 2);
     for (int k = 0; k < 2; k++) {
-        if (akm_whole_update_scaling(list, 2, all_s, ALL, k ? all_dz : all_z, ALL, all_w, ALL, all_lambda, ALL,
-                                     all_u, ALL, all_v, ALL, all_eta, 2, all_d, 2, &truth, &cone) != AKM_DONE) return 1;
+        printf("marks %d, %d: ", marks[0], marks[1]);
+        uint8_t no = akm_list_mul_w(list, 2, 1, all_y, ALL, all_z, ALL, 1, 0, all_w, ALL, all_eta, 2, marks, 2);
+        if (no != AKM_DONE) printf("refused with %d\n", no);
+        else print("W*z", all_y, ALL);
+        akm_list_set_identity_scaling(list, 2, 1, all_w, ALL, all_u, ALL, all_v, ALL, all_eta, 2, all_d, 2, marks, 2);
+    }
+
+    /* the whole list's scaling stops at the first cone that has none, as cone 1 for all_dz, which lies outside */
+    size_t cone;
+    for (int k = 0; k < 2; k++) {
+        if (akm_whole_update_scaling(list, 2, all_s, ALL, k ? all_z : all_dz, ALL, all_w, ALL, all_lambda, ALL,
+                                     all_u, ALL, all_v, ALL, all_eta, 2, all_d, 2, marks, 2, &truth, &cone) != AKM_DONE) return 1;
+        printf("marks %d, %d: ", marks[0], marks[1]);
         if (truth) print("lambda of the list", all_lambda, ALL);
         else printf("no scaling of cone %zu\n", cone);
     }

@@ -23,7 +23,7 @@ extern "C" {
 #endif
 
 /* Refusals. Rank of a bare call: 1, 7, 5, 6. Of a call on a list: more than 256 cones (2); then record by
-   record 1, 3, the total (2); then 4, 7, 5, 6. */
+   record 1, 3, the total (2); then 4, 7, 5, 6, 8. */
 enum akm_refusal {
     AKM_DONE = 0,
     AKM_BAD_DIMENSION = 1, /* second-order: below 2 or above 4,096; nonnegative: above 4,096; no such kind */
@@ -32,7 +32,8 @@ enum akm_refusal {
     AKM_NO_CONE = 4,       /* the cone named is not in the list */
     AKM_BAD_LENGTH = 5,    /* a vector has the wrong length */
     AKM_BAD_LIMIT = 6,     /* a step's limit is NaN or below zero */
-    AKM_NOT_DENSE = 7      /* the square block is asked of a cone that is nonnegative or of over 4 entries */
+    AKM_NOT_DENSE = 7,     /* the square block is asked of a cone that is nonnegative or of over 4 entries */
+    AKM_BAD_MARK = 8       /* of a list: the cone's mark says that what the call reads is not set */
 };
 
 /* Where a point stands towards its cone. */
@@ -56,7 +57,7 @@ double akm_greatest(double a, double b);
    first call w, lambda, u, v and eta are +0 throughout and d is 1 throughout; this call makes it so. Each
    vector is filled by itself, whatever its length, so nothing is refused; of one cone eta and d are vectors
    of one number. (u and v must not be left as they come: a scaling adds 0 times what they held, and 0 times
-   a NaN or an infinity is a NaN.) */
+   a NaN or an infinity is a NaN.) The marks of a list are apart: see there. */
 void akm_fresh_state(double *w, size_t w_len, double *lambda, size_t lambda_len, double *u, size_t u_len, double *v, size_t v_len, double *eta, size_t eta_len, double *d, size_t d_len);
 
 /* ---- second-order. A cone stores w, lambda, u, v, eta, d; one of up to 4 entries, which is dense, keeps u, v
@@ -82,9 +83,9 @@ uint8_t akm_soc_unit_initialization(double *z, size_t z_len, double *s, size_t s
 
 /* w = (1, 0, ..), eta = 1; above 4 entries also d = 1/2, u = (1/sqrt 2, 0, ..) and v = 0. lambda stays */
 uint8_t akm_soc_set_identity_scaling(double *w, size_t w_len, double *u, size_t u_len, double *v, size_t v_len, double *eta, double *d);
-/* truth = true, or false where s, z or w has no root scale: then w and eta may have been written, and no
-   more. A mirrored point has one, a fault that is kept: s = z = (-2, 0) gives true and puts a NaN into
-   lambda. The standing tells such a point */
+/* truth = true, or false where s, z or the new w has no root scale: then nothing else is written. A
+   mirrored point has one, a fault that is kept: s = z = (-2, 0) gives true and puts a NaN into lambda.
+   The standing tells such a point */
 uint8_t akm_soc_update_scaling(const double *s, size_t s_len, const double *z, size_t z_len, double *w, size_t w_len, double *lambda, size_t lambda_len, double *u, size_t u_len, double *v, size_t v_len, double *eta, double *d, uint8_t *truth);
 
 /* ---- second-order: the block Hs */
@@ -212,7 +213,20 @@ uint8_t akm_nn_standing(const double *z, size_t z_len, uint8_t *standing);
    cone of it, by its index k, and reads and writes nothing but that cone's own range of each buffer. z, s,
    w, lambda, u, v and the like are as long as all entries together, eta and d have one number for each
    cone, and hs holds each cone's block behind the other: n numbers for a nonnegative cone or one of over 4
-   entries, else n(n+1)/2. A nonnegative cone uses no u, v, eta and d. What a call computes is said above. */
+   entries, else n(n+1)/2. A nonnegative cone uses no u, v, eta and d. What a call computes is said above.
+
+   Each cone of a list also has a mark, a byte of marks, which are as many as eta and d: by what the cone's
+   scaling was last set. akm_list_set_identity_scaling makes it AKM_IDENTITY, and a scaling that answers true
+   AKM_SCALED. Nothing else writes marks, nor does a refused call or a false. What reads w, eta or d is
+   refused with 8 on a fresh cone, and what reads lambda, which identity scaling never sets, unless the mark
+   is AKM_SCALED. The marks of a new list are AKM_FRESH throughout, which the caller writes; any byte that is
+   none of the three counts as AKM_FRESH. A bare call has no mark. */
+
+enum akm_mark {
+    AKM_FRESH = 0,
+    AKM_IDENTITY = 1,
+    AKM_SCALED = 2
+};
 
 enum akm_kind {
     AKM_NONNEGATIVE = 0,
@@ -229,25 +243,37 @@ struct akm_cone {
 uint8_t akm_list_margins(const struct akm_cone *list, size_t list_len, size_t k, const double *z, size_t z_len, double *alpha, double *beta);
 uint8_t akm_list_scaled_unit_shift(const struct akm_cone *list, size_t list_len, size_t k, double *z, size_t z_len, double alpha);
 uint8_t akm_list_unit_initialization(const struct akm_cone *list, size_t list_len, size_t k, double *z, size_t z_len, double *s, size_t s_len);
-uint8_t akm_list_set_identity_scaling(const struct akm_cone *list, size_t list_len, size_t k, double *w, size_t w_len, double *u, size_t u_len, double *v, size_t v_len, double *eta, size_t eta_len, double *d, size_t d_len);
-uint8_t akm_list_update_scaling(const struct akm_cone *list, size_t list_len, size_t k, const double *s, size_t s_len, const double *z, size_t z_len, double *w, size_t w_len, double *lambda, size_t lambda_len, double *u, size_t u_len, double *v, size_t v_len, double *eta, size_t eta_len, double *d, size_t d_len, uint8_t *truth);
-uint8_t akm_list_get_hs(const struct akm_cone *list, size_t list_len, size_t k, double *hs, size_t hs_len, const double *w, size_t w_len, const double *eta, size_t eta_len, const double *d, size_t d_len);
-void akm_list_square_hs(struct akm_square *square, const struct akm_cone *list, size_t list_len, size_t k, const double *w, size_t w_len, const double *eta, size_t eta_len);
-uint8_t akm_list_mul_hs(const struct akm_cone *list, size_t list_len, size_t k, double *y, size_t y_len, const double *x, size_t x_len, const double *w, size_t w_len, const double *eta, size_t eta_len);
-uint8_t akm_list_affine_ds(const struct akm_cone *list, size_t list_len, size_t k, double *ds, size_t ds_len, const double *lambda, size_t lambda_len);
-uint8_t akm_list_combined_ds_shift(const struct akm_cone *list, size_t list_len, size_t k, double *shift, size_t shift_len, double *step_z, size_t step_z_len, double *step_s, size_t step_s_len, double sigma_mu, const double *w, size_t w_len, const double *eta, size_t eta_len);
-uint8_t akm_list_ds_from_dz_offset(const struct akm_cone *list, size_t list_len, size_t k, double *out, size_t out_len, const double *ds, size_t ds_len, const double *z, size_t z_len, const double *w, size_t w_len, const double *lambda, size_t lambda_len, const double *eta, size_t eta_len);
+/* sets the mark to Identity */
+uint8_t akm_list_set_identity_scaling(const struct akm_cone *list, size_t list_len, size_t k, double *w, size_t w_len, double *u, size_t u_len, double *v, size_t v_len, double *eta, size_t eta_len, double *d, size_t d_len, uint8_t *marks, size_t marks_len);
+/* a true sets the mark to Scaled, a false keeps it */
+uint8_t akm_list_update_scaling(const struct akm_cone *list, size_t list_len, size_t k, const double *s, size_t s_len, const double *z, size_t z_len, double *w, size_t w_len, double *lambda, size_t lambda_len, double *u, size_t u_len, double *v, size_t v_len, double *eta, size_t eta_len, double *d, size_t d_len, uint8_t *marks, size_t marks_len, uint8_t *truth);
+/* refused with 8 unless the mark is Identity or Scaled */
+uint8_t akm_list_get_hs(const struct akm_cone *list, size_t list_len, size_t k, double *hs, size_t hs_len, const double *w, size_t w_len, const double *eta, size_t eta_len, const double *d, size_t d_len, const uint8_t *marks, size_t marks_len);
+/* refused with 8 unless the mark is Identity or Scaled */
+void akm_list_square_hs(struct akm_square *square, const struct akm_cone *list, size_t list_len, size_t k, const double *w, size_t w_len, const double *eta, size_t eta_len, const uint8_t *marks, size_t marks_len);
+/* refused with 8 unless the mark is Identity or Scaled */
+uint8_t akm_list_mul_hs(const struct akm_cone *list, size_t list_len, size_t k, double *y, size_t y_len, const double *x, size_t x_len, const double *w, size_t w_len, const double *eta, size_t eta_len, const uint8_t *marks, size_t marks_len);
+/* refused with 8 unless the mark is Scaled */
+uint8_t akm_list_affine_ds(const struct akm_cone *list, size_t list_len, size_t k, double *ds, size_t ds_len, const double *lambda, size_t lambda_len, const uint8_t *marks, size_t marks_len);
+/* refused with 8 unless the mark is Identity or Scaled */
+uint8_t akm_list_combined_ds_shift(const struct akm_cone *list, size_t list_len, size_t k, double *shift, size_t shift_len, double *step_z, size_t step_z_len, double *step_s, size_t step_s_len, double sigma_mu, const double *w, size_t w_len, const double *eta, size_t eta_len, const uint8_t *marks, size_t marks_len);
+/* of a second-order cone refused with 8 unless the mark is Scaled; of a nonnegative one open on any mark */
+uint8_t akm_list_ds_from_dz_offset(const struct akm_cone *list, size_t list_len, size_t k, double *out, size_t out_len, const double *ds, size_t ds_len, const double *z, size_t z_len, const double *w, size_t w_len, const double *lambda, size_t lambda_len, const double *eta, size_t eta_len, const uint8_t *marks, size_t marks_len);
 uint8_t akm_list_step_length(const struct akm_cone *list, size_t list_len, size_t k, const double *dz, size_t dz_len, const double *ds, size_t ds_len, const double *z, size_t z_len, const double *s, size_t s_len, double limit, double *step_z, double *step_s);
-uint8_t akm_list_mul_w(const struct akm_cone *list, size_t list_len, size_t k, double *y, size_t y_len, const double *x, size_t x_len, double alpha, double beta, const double *w, size_t w_len, const double *eta, size_t eta_len);
-uint8_t akm_list_mul_winv(const struct akm_cone *list, size_t list_len, size_t k, double *y, size_t y_len, const double *x, size_t x_len, double alpha, double beta, const double *w, size_t w_len, const double *eta, size_t eta_len);
+/* refused with 8 unless the mark is Identity or Scaled */
+uint8_t akm_list_mul_w(const struct akm_cone *list, size_t list_len, size_t k, double *y, size_t y_len, const double *x, size_t x_len, double alpha, double beta, const double *w, size_t w_len, const double *eta, size_t eta_len, const uint8_t *marks, size_t marks_len);
+/* refused with 8 unless the mark is Identity or Scaled */
+uint8_t akm_list_mul_winv(const struct akm_cone *list, size_t list_len, size_t k, double *y, size_t y_len, const double *x, size_t x_len, double alpha, double beta, const double *w, size_t w_len, const double *eta, size_t eta_len, const uint8_t *marks, size_t marks_len);
 uint8_t akm_list_circ_op(const struct akm_cone *list, size_t list_len, size_t k, double *x, size_t x_len, const double *y, size_t y_len, const double *z, size_t z_len);
 uint8_t akm_list_inv_circ_op(const struct akm_cone *list, size_t list_len, size_t k, double *x, size_t x_len, const double *y, size_t y_len, const double *z, size_t z_len);
-uint8_t akm_list_lambda_inv_circ_op(const struct akm_cone *list, size_t list_len, size_t k, double *x, size_t x_len, const double *z, size_t z_len, const double *lambda, size_t lambda_len);
+/* refused with 8 unless the mark is Scaled */
+uint8_t akm_list_lambda_inv_circ_op(const struct akm_cone *list, size_t list_len, size_t k, double *x, size_t x_len, const double *z, size_t z_len, const double *lambda, size_t lambda_len, const uint8_t *marks, size_t marks_len);
 uint8_t akm_list_standing(const struct akm_cone *list, size_t list_len, size_t k, const double *z, size_t z_len, uint8_t *standing);
 /* the whole list's scaling: the calls on cone 0, 1, .. made one by one, up to and including the first
    that answers false. truth = true for all, which leaves cone as it was, and is so of no cones; or
-   false, and cone = that cone's index: the cones behind it keep all their numbers */
-uint8_t akm_whole_update_scaling(const struct akm_cone *list, size_t list_len, const double *s, size_t s_len, const double *z, size_t z_len, double *w, size_t w_len, double *lambda, size_t lambda_len, double *u, size_t u_len, double *v, size_t v_len, double *eta, size_t eta_len, double *d, size_t d_len, uint8_t *truth, size_t *cone);
+   false, and cone = that cone's index: it and the cones behind it keep all their numbers and marks, the
+   cones before it are Scaled */
+uint8_t akm_whole_update_scaling(const struct akm_cone *list, size_t list_len, const double *s, size_t s_len, const double *z, size_t z_len, double *w, size_t w_len, double *lambda, size_t lambda_len, double *u, size_t u_len, double *v, size_t v_len, double *eta, size_t eta_len, double *d, size_t d_len, uint8_t *marks, size_t marks_len, uint8_t *truth, size_t *cone);
 /* the whole list's step: each cone's at the caller's limit, and of each side the least; the limit twice
    for no cones */
 uint8_t akm_whole_step_length(const struct akm_cone *list, size_t list_len, const double *dz, size_t dz_len, const double *ds, size_t ds_len, const double *z, size_t z_len, const double *s, size_t s_len, double limit, double *step_z, double *step_s);

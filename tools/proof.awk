@@ -72,7 +72,7 @@ function declared(t) {
     types[t] = 1
     return t
 }
-function row(t) { return t == "f64" || t == "usize" ? t : t == "bool" ? "Boolean" : declared(t) "′.the-row" }
+function row(t) { return t == "f64" || t == "usize" || t == "u8" ? t : t == "bool" ? "Boolean" : declared(t) "′.the-row" }
 function laws(law, t) { return law " 𝓤 H (𝓖 .A) W" (t == "" ? "" : " " declared(t) "′.the-type " t "-laws.the-laws") }
 function of_plain(t) { return t == "f64" ? laws("a-float") : t == "usize" ? laws("a-usize") : t == "bool" ? laws("a-bool") : laws("a-struct", t) " " t "-laws.the-copy" }
 function of_result(t) { return t == "bool" ? laws("known-bool") : t == "usize" ? laws("known-uint") " w64" : laws("known-" form[declared(t)], t) (form[t] == "enum" ? " tt" : "") }
@@ -147,7 +147,7 @@ function bring(from_, names,  w, k, i, x, kept) {
 }
 function uses(s, looks,  i, j, k, c, x, order) {
     gsub(/[\n{}]/, " ", s); k = lex(s); for (i = 1; i <= k; i++) used[tok[i]] = 1
-    bring("Rattle.walks.proofs.Law", "_≡_, refl, ap, true, false, List, [], _∷_, length, getD, emp, id⊢, fact, factI, givenOf, w64, f64, usize, Boolean, known-bool, known-uint, known-struct, known-enum, proved, Par, plain, shared, mutable, Ws, noCone, OverRecords, known, a-float, a-usize, a-bool, a-struct, walks")
+    bring("Rattle.walks.proofs.Law", "_≡_, refl, ap, true, false, List, [], _∷_, length, getD, emp, id⊢, fact, factI, givenOf, w64, f64, usize, u8, Boolean, known-bool, known-uint, known-struct, known-enum, proved, Par, plain, shared, mutable, Ws, noCone, OverRecords, known, a-float, a-usize, a-bool, a-struct, walks")
     bring("Rattle.walks.proofs.Look", looks)
     for (i = 1; i <= ghosts; i++) {
         c = upto(ghost[i], " "); x = behind(ghost[i], " ")

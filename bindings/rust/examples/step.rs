@@ -10,15 +10,16 @@ fn main() -> Result<(), Refusal> {
     let dz = vec![-0.5, 1.0, -3.0, 1.0, 2.0, -2.0, 0.0, 1.0, 1.0, 0.5];
     let ds = vec![1.0, -0.25, 1.0, 4.0, 0.0, -1.0, 1.0, 0.0, 0.5, 1.0];
 
-    let State { mut w, mut lambda, mut u, mut v, mut eta, mut d } = State::fresh(n, cones.len());
+    let State { mut w, mut lambda, mut u, mut v, mut eta, mut d, mut marks } = State::fresh(n, cones.len());
     for k in 0..cones.len() {
-        let scaled = list::update_scaling(&cones, k, &s, &z, &mut w, &mut lambda, &mut u, &mut v, &mut eta, &mut d)?;
+        let scaled =
+            list::update_scaling(&cones, k, &s, &z, &mut w, &mut lambda, &mut u, &mut v, &mut eta, &mut d, &mut marks)?;
         assert!(scaled, "cone {k} has no scaling at this point");
     }
 
     let (mut shift, mut step_z, mut step_s) = (vec![0.0; n], dz.clone(), ds.clone());
     for k in 0..cones.len() {
-        list::combined_ds_shift(&cones, k, &mut shift, &mut step_z, &mut step_s, 0.1, &w, &eta)?;
+        list::combined_ds_shift(&cones, k, &mut shift, &mut step_z, &mut step_s, 0.1, &w, &eta, &marks)?;
     }
     println!("shift {shift:.4?}");
 

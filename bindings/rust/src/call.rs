@@ -18,6 +18,12 @@ macro_rules! call {
     ($doc:tt $n:ident $e:ident $a:ident [$($x:tt)*] [$($s:tt)*] [$($h:tt)*] writes $p:ident, $($rest:tt)*) => {
         call! { $doc $n $e $a [$($x)* _: *mut f64, _: usize,] [$($s)* $p: &mut [f64],] [$($h)* $p.as_mut_ptr(), $p.len(),] $($rest)* }
     };
+    ($doc:tt $n:ident $e:ident $a:ident [$($x:tt)*] [$($s:tt)*] [$($h:tt)*] heeds $p:ident, $($rest:tt)*) => {
+        call! { $doc $n $e $a [$($x)* _: *const u8, _: usize,] [$($s)* $p: &[u8],] [$($h)* $p.as_ptr(), $p.len(),] $($rest)* }
+    };
+    ($doc:tt $n:ident $e:ident $a:ident [$($x:tt)*] [$($s:tt)*] [$($h:tt)*] sets $p:ident, $($rest:tt)*) => {
+        call! { $doc $n $e $a [$($x)* _: *mut u8, _: usize,] [$($s)* $p: &mut [u8],] [$($h)* $p.as_mut_ptr(), $p.len(),] $($rest)* }
+    };
     ($doc:tt $n:ident $e:ident $a:ident [$($x:tt)*] [$($s:tt)*] [$($h:tt)*] number $p:ident, $($rest:tt)*) => {
         call! { $doc $n $e $a [$($x)* _: f64,] [$($s)* $p: f64,] [$($h)* $p,] $($rest)* }
     };

@@ -28,12 +28,14 @@ pub enum Refusal {
     Limit = 6,
     /// The square block is asked of a cone that has none: it is nonnegative, or has over 4 entries.
     NotDense = 7,
+    /// The mark of the list's cone says that what the call reads is not set.
+    Mark = 8,
 }
 
 impl Refusal {
     fn of(number: u8) -> Result<(), Refusal> {
         use Refusal::*;
-        let refusals = [Dimension, Size, Start, Cone, Length, Limit, NotDense];
+        let refusals = [Dimension, Size, Start, Cone, Length, Limit, NotDense, Mark];
         match number.checked_sub(1) {
             None => Ok(()),
             Some(at) => Err(refusals[usize::from(at)]),
@@ -51,6 +53,7 @@ impl fmt::Display for Refusal {
             Refusal::Length => "a slice has the wrong length",
             Refusal::Limit => "the limit is NaN or below zero",
             Refusal::NotDense => "the cone has no square block",
+            Refusal::Mark => "the cone's mark says that what is read is not set",
         })
     }
 }
@@ -76,12 +79,41 @@ impl Standing {
     }
 }
 
+/// What set a cone's scaling last: the marks of a list have a byte for each cone. `list::set_identity_scaling` and
+/// a scaling that answers true set it, and nothing else.
+#[derive(Clone, Copy, Debug, PartialEq, Eq)]
+#[repr(u8)]
+pub enum Mark {
+    /// Nothing: what reads w, eta, d or lambda is refused.
+    Fresh = 0,
+    /// Identity scaling, which leaves lambda: what reads lambda is refused.
+    Identity = 1,
+    Scaled = 2,
+}
+
+/// A byte that is no mark counts as Fresh.
+impl From<u8> for Mark {
+    fn from(byte: u8) -> Mark {
+        match byte {
+            1 => Mark::Identity,
+            2 => Mark::Scaled,
+            _ => Mark::Fresh,
+        }
+    }
+}
+
+impl From<Mark> for u8 {
+    fn from(mark: Mark) -> u8 {
+        mark as u8
+    }
+}
+
 /// What the scaling of a whole list came to.
 #[derive(Clone, Copy, Debug, PartialEq, Eq)]
 pub enum Scaled {
     /// Every cone answered true, as of a list without cones.
     AllTrue,
-    /// The first cone that answered false, by its index: the cones behind it are as they were.
+    /// The first cone that answered false, by its index: it and the cones behind it are as they were.
     FalseAt(usize),
 }
 
@@ -134,7 +166,8 @@ calls! {
     fresh_state: akm_fresh_state(writes w, writes lambda, writes u, writes v, writes eta, writes d) -> nothing;
 }
 
-/// What a list of cones stores from call to call: w, lambda, u and v for each entry, eta and d for each cone.
+/// What a list of cones stores from call to call: w, lambda, u and v for each entry, eta, d and a [`Mark`]'s byte for
+/// each cone.
 #[derive(Clone, Debug, PartialEq)]
 pub struct State {
     pub w: Vec<f64>,
@@ -143,15 +176,16 @@ pub struct State {
     pub v: Vec<f64>,
     pub eta: Vec<f64>,
     pub d: Vec<f64>,
+    pub marks: Vec<u8>,
 }
 
 impl State {
-    /// A fresh one, for so many entries together and so many cones.
+    /// A fresh one, for so many entries together and so many cones, each marked Fresh.
     pub fn fresh(entries: usize, cones: usize) -> State {
         let [mut w, mut lambda, mut u, mut v] = [(); 4].map(|()| vec![0.0; entries]);
         let [mut eta, mut d] = [(); 2].map(|()| vec![0.0; cones]);
         fresh_state(&mut w, &mut lambda, &mut u, &mut v, &mut eta, &mut d);
-        State { w, lambda, u, v, eta, d }
+        State { w, lambda, u, v, eta, d, marks: vec![Mark::Fresh.into(); cones] }
     }
 }
 
@@ -200,9 +234,9 @@ pub mod soc {
         unit_initialization: akm_soc_unit_initialization(writes z, writes s) -> done;
         /// w = (1, 0, ..), eta = 1; above 4 entries also d = 1/2, u = (1/sqrt 2, 0, ..) and v = 0. lambda stays
         set_identity_scaling: akm_soc_set_identity_scaling(writes w, writes u, writes v, stores eta, stores d) -> done;
-        /// truth = true, or false where s, z or w has no root scale: then w and eta may have been written, and no
-        /// more. A mirrored point has one, a fault that is kept: s = z = (-2, 0) gives true and puts a NaN into
-        /// lambda. The standing tells such a point
+        /// truth = true, or false where s, z or the new w has no root scale: then nothing else is written. A mirrored
+        /// point has one, a fault that is kept: s = z = (-2, 0) gives true and puts a NaN into lambda. The standing
+        /// tells such a point
         update_scaling: akm_soc_update_scaling(reads s, reads z, writes w, writes lambda, writes u, writes v, stores eta, stores d) -> truth;
         /// hs has n numbers for n above 4, else n(n+1)/2: the upper triangle by columns
         get_hs: akm_soc_get_hs(writes hs, reads w, lent eta, lent d) -> done;
@@ -301,25 +335,37 @@ pub mod list {
         margins: akm_list_margins(row list, index k, reads z) -> pair;
         scaled_unit_shift: akm_list_scaled_unit_shift(row list, index k, writes z, number alpha) -> done;
         unit_initialization: akm_list_unit_initialization(row list, index k, writes z, writes s) -> done;
-        set_identity_scaling: akm_list_set_identity_scaling(row list, index k, writes w, writes u, writes v, writes eta, writes d) -> done;
-        update_scaling: akm_list_update_scaling(row list, index k, reads s, reads z, writes w, writes lambda, writes u, writes v, writes eta, writes d) -> truth;
-        get_hs: akm_list_get_hs(row list, index k, writes hs, reads w, reads eta, reads d) -> done;
-        square_hs: akm_list_square_hs(row list, index k, reads w, reads eta) -> square;
-        mul_hs: akm_list_mul_hs(row list, index k, writes y, reads x, reads w, reads eta) -> done;
-        affine_ds: akm_list_affine_ds(row list, index k, writes ds, reads lambda) -> done;
-        combined_ds_shift: akm_list_combined_ds_shift(row list, index k, writes shift, writes step_z, writes step_s, number sigma_mu, reads w, reads eta) -> done;
-        ds_from_dz_offset: akm_list_ds_from_dz_offset(row list, index k, writes out, reads ds, reads z, reads w, reads lambda, reads eta) -> done;
+        /// sets the mark to Identity
+        set_identity_scaling: akm_list_set_identity_scaling(row list, index k, writes w, writes u, writes v, writes eta, writes d, sets marks) -> done;
+        /// a true sets the mark to Scaled, a false keeps it
+        update_scaling: akm_list_update_scaling(row list, index k, reads s, reads z, writes w, writes lambda, writes u, writes v, writes eta, writes d, sets marks) -> truth;
+        /// refused with 8 unless the mark is Identity or Scaled
+        get_hs: akm_list_get_hs(row list, index k, writes hs, reads w, reads eta, reads d, heeds marks) -> done;
+        /// refused with 8 unless the mark is Identity or Scaled
+        square_hs: akm_list_square_hs(row list, index k, reads w, reads eta, heeds marks) -> square;
+        /// refused with 8 unless the mark is Identity or Scaled
+        mul_hs: akm_list_mul_hs(row list, index k, writes y, reads x, reads w, reads eta, heeds marks) -> done;
+        /// refused with 8 unless the mark is Scaled
+        affine_ds: akm_list_affine_ds(row list, index k, writes ds, reads lambda, heeds marks) -> done;
+        /// refused with 8 unless the mark is Identity or Scaled
+        combined_ds_shift: akm_list_combined_ds_shift(row list, index k, writes shift, writes step_z, writes step_s, number sigma_mu, reads w, reads eta, heeds marks) -> done;
+        /// of a second-order cone refused with 8 unless the mark is Scaled; of a nonnegative one open on any mark
+        ds_from_dz_offset: akm_list_ds_from_dz_offset(row list, index k, writes out, reads ds, reads z, reads w, reads lambda, reads eta, heeds marks) -> done;
         step_length: akm_list_step_length(row list, index k, reads dz, reads ds, reads z, reads s, number limit) -> pair;
-        mul_w: akm_list_mul_w(row list, index k, writes y, reads x, number alpha, number beta, reads w, reads eta) -> done;
-        mul_winv: akm_list_mul_winv(row list, index k, writes y, reads x, number alpha, number beta, reads w, reads eta) -> done;
+        /// refused with 8 unless the mark is Identity or Scaled
+        mul_w: akm_list_mul_w(row list, index k, writes y, reads x, number alpha, number beta, reads w, reads eta, heeds marks) -> done;
+        /// refused with 8 unless the mark is Identity or Scaled
+        mul_winv: akm_list_mul_winv(row list, index k, writes y, reads x, number alpha, number beta, reads w, reads eta, heeds marks) -> done;
         circ_op: akm_list_circ_op(row list, index k, writes x, reads y, reads z) -> done;
         inv_circ_op: akm_list_inv_circ_op(row list, index k, writes x, reads y, reads z) -> done;
-        lambda_inv_circ_op: akm_list_lambda_inv_circ_op(row list, index k, writes x, reads z, reads lambda) -> done;
+        /// refused with 8 unless the mark is Scaled
+        lambda_inv_circ_op: akm_list_lambda_inv_circ_op(row list, index k, writes x, reads z, reads lambda, heeds marks) -> done;
         standing: akm_list_standing(row list, index k, reads z) -> standing;
         /// the whole list's scaling: the calls on cone 0, 1, .. made one by one, up to and including the first that
         /// answers false. truth = true for all, which leaves cone as it was, and is so of no cones; or false, and
-        /// cone = that cone's index: the cones behind it keep all their numbers
-        whole_update_scaling: akm_whole_update_scaling(row list, reads s, reads z, writes w, writes lambda, writes u, writes v, writes eta, writes d) -> scalings;
+        /// cone = that cone's index: it and the cones behind it keep all their numbers and marks, the cones before it
+        /// are Scaled
+        whole_update_scaling: akm_whole_update_scaling(row list, reads s, reads z, writes w, writes lambda, writes u, writes v, writes eta, writes d, sets marks) -> scalings;
         /// the whole list's step: each cone's at the caller's limit, and of each side the least; the limit twice for
         /// no cones
         whole_step_length: akm_whole_step_length(row list, reads dz, reads ds, reads z, reads s, number limit) -> pair;

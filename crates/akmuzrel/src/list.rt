@@ -76,13 +76,14 @@ pub extern "C" fn akm_list_set_identity_scaling(
     v: &mut [f64],
     eta: &mut [f64],
     d: &mut [f64],
+    marks: &mut [u8],
 ) -> u8
-    ensures { λ r. ⌜ export r [] (now (w .exit) ⨾ now (u .exit) ⨾ now (v .exit) ⨾ now (eta .exit) ⨾ now (d .exit) ⨾ tt)
+    ensures { λ r. ⌜ export r [] (now (w .exit) ⨾ now (u .exit) ⨾ now (v .exit) ⨾ now (eta .exit) ⨾ now (d .exit) ⨾ now (marks .exit) ⨾ tt)
         ≡ Exported Values [] (At (PlaceOf (Cones (now (list .entry))) k) SetIdentityScalingDeed (now (w .entry)) (now (u .entry)) (now (v .entry)) (now (eta
-        .entry)) (now (d .entry))) ⌝ }
+        .entry)) (now (d .entry)) (now (marks .entry))) ⌝ }
 {
     let p = records::place_of(list, k);
-    codes::answer(list_identity::set_identity_scaling_at(p, w, u, v, eta, d))
+    codes::answer(list_identity::set_identity_scaling_at(p, w, u, v, eta, d, marks))
 }
 
 #[no_mangle]
@@ -97,15 +98,17 @@ pub extern "C" fn akm_list_update_scaling(
     v: &mut [f64],
     eta: &mut [f64],
     d: &mut [f64],
+    marks: &mut [u8],
     truth: &mut u8,
 ) -> u8
-    ensures { λ r. ⌜ export r (whole (now (truth .exit)) ∷ []) (now (w .exit) ⨾ now (lambda .exit) ⨾ now (u .exit) ⨾ now (v .exit) ⨾ now (eta .exit) ⨾ now (d .exit) ⨾ tt)
+    ensures { λ r. ⌜ export r (whole (now (truth .exit)) ∷ []) (now (w .exit) ⨾ now (lambda .exit) ⨾ now (u .exit) ⨾ now (v .exit) ⨾ now (eta .exit) ⨾ now (d .exit) ⨾ now
+        (marks .exit) ⨾ tt)
         ≡ Exported Values (whole (now (truth .entry)) ∷ []) (At (PlaceOf (Cones (now (list .entry))) k) UpdateScalingDeed (now (w .entry)) (now (lambda
-        .entry)) (now (u .entry)) (now (v .entry)) (now (eta .entry)) (now (d .entry)) (now (s .entry)) (now (z .entry))) ⌝ }
+        .entry)) (now (u .entry)) (now (v .entry)) (now (eta .entry)) (now (d .entry)) (now (marks .entry)) (now (s .entry)) (now (z .entry))) ⌝ }
 {
     let p = records::place_of(list, k);
     codes::scaling(
-        list_scaling::update_scaling_at(p, s, z, w, lambda, u, v, eta, d),
+        list_scaling::update_scaling_at(p, s, z, w, lambda, u, v, eta, d, marks),
         truth,
     )
 }
@@ -118,12 +121,14 @@ pub extern "C" fn akm_list_get_hs(
     w: &[f64],
     eta: &[f64],
     d: &[f64],
+    marks: &[u8],
 ) -> u8
     ensures { λ r. ⌜ export r [] (now (hs .exit) ⨾ tt)
-        ≡ Exported Values [] (At (PlaceOf (Cones (now (list .entry))) k) GetHsDeed (now (hs .entry)) (now (w .entry)) (now (eta .entry)) (now (d .entry))) ⌝ }
+        ≡ Exported Values [] (At (PlaceOf (Cones (now (list .entry))) k) GetHsDeed (now (hs .entry)) (now (w .entry)) (now (eta .entry)) (now (d .entry)) (now
+        (marks .entry))) ⌝ }
 {
     let p = records::place_of(list, k);
-    codes::answer(list_blocks::get_hs_at(p, hs, w, eta, d))
+    codes::answer(list_blocks::get_hs_at(p, hs, w, eta, d, marks))
 }
 
 #[no_mangle]
@@ -132,11 +137,12 @@ pub extern "C" fn akm_list_square_hs(
     k: usize,
     w: &[f64],
     eta: &[f64],
+    marks: &[u8],
 ) -> Square
-    ensures { λ r. ⌜ ofSquare r ≡ AsSquared (At (PlaceOf (Cones (now (list .entry))) k) SquareHsDeed (now (w .entry)) (now (eta .entry)) .ruling) ⌝ }
+    ensures { λ r. ⌜ ofSquare r ≡ AsSquared (At (PlaceOf (Cones (now (list .entry))) k) SquareHsDeed (now (w .entry)) (now (eta .entry)) (now (marks .entry)) .ruling) ⌝ }
 {
     let p = records::place_of(list, k);
-    list_square::square_hs_at(p, w, eta)
+    list_square::square_hs_at(p, w, eta, marks)
 }
 
 #[no_mangle]
@@ -147,12 +153,14 @@ pub extern "C" fn akm_list_mul_hs(
     x: &[f64],
     w: &[f64],
     eta: &[f64],
+    marks: &[u8],
 ) -> u8
     ensures { λ r. ⌜ export r [] (now (y .exit) ⨾ tt)
-        ≡ Exported Values [] (At (PlaceOf (Cones (now (list .entry))) k) MulHsDeed (now (y .entry)) (now (x .entry)) (now (w .entry)) (now (eta .entry))) ⌝ }
+        ≡ Exported Values [] (At (PlaceOf (Cones (now (list .entry))) k) MulHsDeed (now (y .entry)) (now (x .entry)) (now (w .entry)) (now (eta .entry)) (now
+        (marks .entry))) ⌝ }
 {
     let p = records::place_of(list, k);
-    codes::answer(list_mul_hs::mul_hs_at(p, y, x, w, eta))
+    codes::answer(list_mul_hs::mul_hs_at(p, y, x, w, eta, marks))
 }
 
 #[no_mangle]
@@ -161,12 +169,13 @@ pub extern "C" fn akm_list_affine_ds(
     k: usize,
     ds: &mut [f64],
     lambda: &[f64],
+    marks: &[u8],
 ) -> u8
     ensures { λ r. ⌜ export r [] (now (ds .exit) ⨾ tt)
-        ≡ Exported Values [] (At (PlaceOf (Cones (now (list .entry))) k) AffineDsDeed (now (ds .entry)) (now (lambda .entry))) ⌝ }
+        ≡ Exported Values [] (At (PlaceOf (Cones (now (list .entry))) k) AffineDsDeed (now (ds .entry)) (now (lambda .entry)) (now (marks .entry))) ⌝ }
 {
     let p = records::place_of(list, k);
-    codes::answer(list_jordan::affine_ds_at(p, ds, lambda))
+    codes::answer(list_jordan::affine_ds_at(p, ds, lambda, marks))
 }
 
 #[no_mangle]
@@ -179,13 +188,23 @@ pub extern "C" fn akm_list_combined_ds_shift(
     sigma_mu: f64,
     w: &[f64],
     eta: &[f64],
+    marks: &[u8],
 ) -> u8
     ensures { λ r. ⌜ export r [] (now (shift .exit) ⨾ now («step_z» .exit) ⨾ now («step_s» .exit) ⨾ tt)
         ≡ Exported Values [] (At (PlaceOf (Cones (now (list .entry))) k) (CombinedDsShiftDeed «sigma_mu») (now (shift .entry)) (now («step_z» .entry)) (now
-        («step_s» .entry)) (now (w .entry)) (now (eta .entry))) ⌝ }
+        («step_s» .entry)) (now (w .entry)) (now (eta .entry)) (now (marks .entry))) ⌝ }
 {
     let p = records::place_of(list, k);
-    codes::answer(list_shifts::combined_ds_shift_at(p, shift, step_z, step_s, sigma_mu, w, eta))
+    codes::answer(list_shifts::combined_ds_shift_at(
+        p,
+        shift,
+        step_z,
+        step_s,
+        sigma_mu,
+        w,
+        eta,
+        marks,
+    ))
 }
 
 #[no_mangle]
@@ -198,13 +217,14 @@ pub extern "C" fn akm_list_ds_from_dz_offset(
     w: &[f64],
     lambda: &[f64],
     eta: &[f64],
+    marks: &[u8],
 ) -> u8
     ensures { λ r. ⌜ export r [] (now (out .exit) ⨾ tt)
         ≡ Exported Values [] (At (PlaceOf (Cones (now (list .entry))) k) DsFromDzOffsetDeed (now (out .entry)) (now (ds .entry)) (now (z .entry)) (now (w
-        .entry)) (now (lambda .entry)) (now (eta .entry))) ⌝ }
+        .entry)) (now (lambda .entry)) (now (eta .entry)) (now (marks .entry))) ⌝ }
 {
     let p = records::place_of(list, k);
-    codes::answer(list_shifts::ds_from_dz_offset_at(p, out, ds, z, w, lambda, eta))
+    codes::answer(list_shifts::ds_from_dz_offset_at(p, out, ds, z, w, lambda, eta, marks))
 }
 
 #[no_mangle]
@@ -241,13 +261,14 @@ pub extern "C" fn akm_list_mul_w(
     beta: f64,
     w: &[f64],
     eta: &[f64],
+    marks: &[u8],
 ) -> u8
     ensures { λ r. ⌜ export r [] (now (y .exit) ⨾ tt)
         ≡ Exported Values [] (At (PlaceOf (Cones (now (list .entry))) k) (MulWDeed alpha beta) (now (y .entry)) (now (x .entry)) (now (w .entry)) (now (eta
-        .entry))) ⌝ }
+        .entry)) (now (marks .entry))) ⌝ }
 {
     let p = records::place_of(list, k);
-    codes::answer(list_products::mul_w_at(p, y, x, alpha, beta, w, eta))
+    codes::answer(list_products::mul_w_at(p, y, x, alpha, beta, w, eta, marks))
 }
 
 #[no_mangle]
@@ -260,13 +281,14 @@ pub extern "C" fn akm_list_mul_winv(
     beta: f64,
     w: &[f64],
     eta: &[f64],
+    marks: &[u8],
 ) -> u8
     ensures { λ r. ⌜ export r [] (now (y .exit) ⨾ tt)
         ≡ Exported Values [] (At (PlaceOf (Cones (now (list .entry))) k) (MulWinvDeed alpha beta) (now (y .entry)) (now (x .entry)) (now (w .entry)) (now (eta
-        .entry))) ⌝ }
+        .entry)) (now (marks .entry))) ⌝ }
 {
     let p = records::place_of(list, k);
-    codes::answer(list_products::mul_winv_at(p, y, x, alpha, beta, w, eta))
+    codes::answer(list_products::mul_winv_at(p, y, x, alpha, beta, w, eta, marks))
 }
 
 #[no_mangle]
@@ -306,12 +328,14 @@ pub extern "C" fn akm_list_lambda_inv_circ_op(
     x: &mut [f64],
     z: &[f64],
     lambda: &[f64],
+    marks: &[u8],
 ) -> u8
     ensures { λ r. ⌜ export r [] (now (x .exit) ⨾ tt)
-        ≡ Exported Values [] (At (PlaceOf (Cones (now (list .entry))) k) LambdaInvCircOpDeed (now (x .entry)) (now (z .entry)) (now (lambda .entry))) ⌝ }
+        ≡ Exported Values [] (At (PlaceOf (Cones (now (list .entry))) k) LambdaInvCircOpDeed (now (x .entry)) (now (z .entry)) (now (lambda .entry)) (now
+        (marks .entry))) ⌝ }
 {
     let p = records::place_of(list, k);
-    codes::answer(list_jordan::lambda_inv_circ_op_at(p, x, z, lambda))
+    codes::answer(list_jordan::lambda_inv_circ_op_at(p, x, z, lambda, marks))
 }
 
 #[no_mangle]
@@ -339,17 +363,18 @@ pub extern "C" fn akm_whole_update_scaling(
     v: &mut [f64],
     eta: &mut [f64],
     d: &mut [f64],
+    marks: &mut [u8],
     truth: &mut u8,
     cone: &mut usize,
 ) -> u8
     ensures { λ r. ⌜ export r (whole (now (truth .exit)) ∷ whole (now (cone .exit)) ∷ []) (now (w .exit) ⨾ now (lambda .exit) ⨾ now (u .exit) ⨾ now (v .exit) ⨾ now (eta
-        .exit) ⨾ now (d .exit) ⨾ tt)
+        .exit) ⨾ now (d .exit) ⨾ now (marks .exit) ⨾ tt)
         ≡ Exported (ScaledValues (now (cone .entry))) (whole (now (truth .entry)) ∷ whole (now (cone .entry)) ∷ []) (ListUpdateScaling (Cones (now (list
         .entry))) (now (s .entry)) (now (z .entry)) (now (w .entry)) (now (lambda .entry)) (now (u .entry)) (now (v .entry)) (now (eta .entry)) (now (d
-        .entry))) ⌝ }
+        .entry)) (now (marks .entry))) ⌝ }
 {
     codes::scalings(
-        records_scaling::list_update_scaling(list, s, z, w, lambda, u, v, eta, d),
+        records_scaling::list_update_scaling(list, s, z, w, lambda, u, v, eta, d, marks),
         truth,
         cone,
     )

@@ -45,6 +45,20 @@ fn small(n: u64) {
     show::decimal(n);
 }
 
+fn mark(m: u8) {
+    small(m as u64);
+}
+
+// What a slice of marks holds.
+pub fn marks(x: &[u8]) {
+    show::text(b" |");
+    let mut i = 0;
+    while i < x.len() {
+        mark(x[i]);
+        i += 1;
+    }
+}
+
 pub fn value(x: f64) {
     refusal(0);
     number(x);

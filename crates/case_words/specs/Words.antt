@@ -1,5 +1,5 @@
 -- What the words of a line say behind the row of records (docs/CASES.md): its slices. Assumes nothing.
-use Prim.Native.Nat.{ℕ, _+_, _-_}
+use Prim.Native.Nat.{ℕ, _+_, _-_, _%_}
 use mathlib.Core.Bool.{cond}
 use mathlib.Core.List.{List, _++_}
 use lib.Dec.{ltb, leb, eqb}
@@ -35,3 +35,7 @@ Left words had = cond (eqb (had .fault) 0) (cond (eqb (had .at) (length words)) 
 -- the doubles, each by its bits, and behind them what was there
 unfoldable pub Numbers : List ℕ → List Float → List Float
 Numbers words y = Each (length words) (λ i. ofBits binary64 (getD words i 0)) ++ drop (length words) y
+
+-- the marks, each by its word's last byte, and behind them what was there
+unfoldable pub Marks : List ℕ → List ℕ → List ℕ
+Marks words y = Each (length words) (λ i. getD words i 0 % 256) ++ drop (length words) y

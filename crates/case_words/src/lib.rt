@@ -4,10 +4,10 @@
 // What is wrong with them is told by a number: 6 words that are missing, 7 a slice of over 64 entries, 8 a row of over 260 records, 9 words
 // that are left over.
 ghost use mathlib.Core.Path.{_≡_};
-ghost use Prim.Native.Nat.{_≤_};
+ghost use Prim.Native.Nat.{_≤_, _%_};
 ghost use lib.ListN.{length};
 ghost use lib.Ieee.{binary64, ofBits};
-ghost use Rattle.case_words.specs.Words.{Stop, Slice, Behind, Nth, Left, Numbers};
+ghost use Rattle.case_words.specs.Words.{Stop, Slice, Behind, Nth, Left, Numbers, Marks};
 
 // What was read of a case's words: where the next begins, how many records or entries there were, and what is wrong, 0 for nothing.
 pub struct Cut {
@@ -104,6 +104,25 @@ pub fn numbers(words: &[u64], out: &mut [f64])
     let mut i = 0;
     while i < words.len() {
         out[i] = double(words[i]);
+        i += 1;
+    }
+}
+
+// A mark: the word's last byte.
+fn mark(b: u64) -> u8
+    ensures { λ r. ⌜ r ≡ b % 256 ⌝ }
+{
+    (b % 256) as u8
+}
+
+// Each word's mark, at its own place.
+pub fn marks(words: &[u64], out: &mut [u8])
+    requires { ⌜ length (now words) ≤ length (now out) ⌝ }
+    ensures { λ _. ⌜ now (out .exit) ≡ Marks (now (words .entry)) (now (out .entry)) ⌝ }
+{
+    let mut i = 0;
+    while i < words.len() {
+        out[i] = mark(words[i]);
         i += 1;
     }
 }

@@ -34,7 +34,7 @@ use denote.Laws.{Is, Typed}
 use denote.Memory.{lone}
 use denote.RattleType.{RattleType, Denots, Valss, owns, flat}
 use denote.Ref.{RefT, ShrRef, MutRef}
-use denote.Builtin.{usize, f64}
+use denote.Builtin.{usize, u8, f64}
 use denote.Signature.{typeAt, typesAt}
 use denote.Slice.{sliceVal, ShrSlice, MutSlice}
 use denote.Steps.{nothing, heard}
@@ -217,13 +217,19 @@ module _ {M : Type 1} (𝓤 : URA M) (H : Heap 𝓤) (A : Atoms 𝓤) (W : Given
   abbrev pub known-floats-mut : (j : ℕ) (κ : Lft) → Known 𝓤 H A (MutSlice (named j) κ f64)
   known-floats-mut j κ = known-slice-mut 𝓤 H A W (named j) κ f64
 
+  abbrev pub known-bytes : (j : ℕ) (κ : Lft) → Known 𝓤 H A (ShrSlice (named j) κ u8)
+  known-bytes j κ = known-slice 𝓤 H A W (named j) κ u8
+
+  abbrev pub known-bytes-mut : (j : ℕ) (κ : Lft) → Known 𝓤 H A (MutSlice (named j) κ u8)
+  known-bytes-mut j κ = known-slice-mut 𝓤 H A W (named j) κ u8
+
   abbrev pub known-f64-ref : (j : ℕ) (κ : Lft) → Known 𝓤 H A (ShrRef (named j) κ f64)
   known-f64-ref j κ = known-ref 𝓤 H A W (named j) κ f64
 
   abbrev pub known-f64-ref-mut : (j : ℕ) (κ : Lft) → Known 𝓤 H A (MutRef (named j) κ f64)
   known-f64-ref-mut j κ = known-ref-mut 𝓤 H A W (named j) κ f64
 
-pub ruleset knowns = (known-list, known-place, known-answer, known-margins, known-scaling, known-scalings, known-steps, known-stands, known-square, known-usize, known-f64, known-bool, known-floats, known-floats-mut, known-f64-ref, known-f64-ref-mut)
+pub ruleset knowns = (known-list, known-place, known-answer, known-margins, known-scaling, known-scalings, known-steps, known-stands, known-square, known-usize, known-f64, known-bool, known-floats, known-floats-mut, known-bytes, known-bytes-mut, known-f64-ref, known-f64-ref-mut)
 
 module _ {M : Type 1} (𝓤 : URA M) (H : Heap 𝓤) (𝓜 : Model 𝓤 H) (𝓖 : GhostRules 𝓤 H) (𝓡 : Running 𝓤 H 𝓜) where
   abbrev A : Atoms 𝓤

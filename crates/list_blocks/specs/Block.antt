@@ -8,11 +8,13 @@ use Rattle.conelist.specs.declared.Kind.{Kind}
 use Rattle.conelist.specs.declared.Kind.the-variants.{Nonnegative, SecondOrder}
 use Rattle.answers.specs.Outcome.{_⨾_}
 use Rattle.conecalls.specs.Deed.{real, per-entry, per-cone, per-block, Deed, Plain, Writes}
+use Rattle.conecalls.specs.Marked.{Marked}
+use Rattle.marks.specs.Mark.{Unset}
 
 unfoldable pub KindHs : Kind → (w : List Float) (η d : Float) → List Float
 KindHs (Nonnegative n) w η d = NonnegHs w
 KindHs (SecondOrder n) w η d = Hs w η d
 
--- hs; w, η, d
+-- hs; w, η, d, and the mark (document 02, item 4: not on a Fresh cone)
 abbrev pub GetHsDeed : Deed
-GetHsDeed = Plain (per-block real ∷ []) (per-entry real ∷ per-cone real ∷ per-cone real ∷ []) (λ kind hs w η d. Writes (KindHs kind w η d ⨾ tt))
+GetHsDeed = Marked (λ kind m. Unset m) (Plain (per-block real ∷ []) (per-entry real ∷ per-cone real ∷ per-cone real ∷ []) (λ kind hs w η d. Writes (KindHs kind w η d ⨾ tt)))

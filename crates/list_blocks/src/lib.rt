@@ -1,5 +1,6 @@
 // The block Hs of one cone of a list, packed (document 01, "Second-order rules" and "Nonnegative rules"; source documents 000, lines 217 to
-// 246, and 001, lines 96 to 101), over the cone's place: by the cone's kind, on the cone's own ranges, and the call.
+// 246, and 001, lines 96 to 101), over the cone's place: by the cone's kind, on the cone's own ranges, and the call, which needs a mark (document
+// 02, item 4).
 use answers::Answer;
 use conelist::Kind;
 use conelist::Place;
@@ -39,8 +40,15 @@ fn hs_in(p: Place, hs: &mut [f64], w: &[f64], eta: &[f64], d: &[f64])
     kind_hs(kind, &mut hs[block..block_end], &w[at..end], eta[k], d[k]);
 }
 
-pub fn get_hs_at(p: Place, hs: &mut [f64], w: &[f64], eta: &[f64], d: &[f64]) -> Answer
-    ensures { λ r. ⌜ tells (ofAnswer r) (now (hs .exit) ⨾ tt) ≡ At p GetHsDeed (now (hs .entry)) (now (w .entry)) (now (eta .entry)) (now (d .entry)) ⌝ }
+pub fn get_hs_at(
+    p: Place,
+    hs: &mut [f64],
+    w: &[f64],
+    eta: &[f64],
+    d: &[f64],
+    marks: &[u8],
+) -> Answer
+    ensures { λ r. ⌜ tells (ofAnswer r) (now (hs .exit) ⨾ tt) ≡ At p GetHsDeed (now (hs .entry)) (now (w .entry)) (now (eta .entry)) (now (d .entry)) (now (marks .entry)) ⌝ }
 {
     let entries = p.entries;
     let count = p.count;
@@ -48,8 +56,9 @@ pub fn get_hs_at(p: Place, hs: &mut [f64], w: &[f64], eta: &[f64], d: &[f64]) ->
     let same = (hs.len() == blocks)
         & (w.len() == entries)
         & (eta.len() == count)
-        & (d.len() == count);
-    let no = conelist::refusal(p, same);
+        & (d.len() == count)
+        & (marks.len() == count);
+    let no = marks::refusal(p, same, marks::unset(p, marks));
     if no != 0 {
         return Answer::Refused(no);
     }

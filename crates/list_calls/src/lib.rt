@@ -53,12 +53,14 @@ pub fn set_identity_scaling(
     v: &mut [f64],
     eta: &mut [f64],
     d: &mut [f64],
+    marks: &mut [u8],
 ) -> Answer
-    ensures { λ r. ⌜ tells (ofAnswer r) (now (w .exit) ⨾ now (u .exit) ⨾ now (v .exit) ⨾ now (eta .exit) ⨾ now (d .exit) ⨾ tt)
-        ≡ At (PlaceOf (now (list .entry)) k) SetIdentityScalingDeed (now (w .entry)) (now (u .entry)) (now (v .entry)) (now (eta .entry)) (now (d .entry)) ⌝ }
+    ensures { λ r. ⌜ tells (ofAnswer r) (now (w .exit) ⨾ now (u .exit) ⨾ now (v .exit) ⨾ now (eta .exit) ⨾ now (d .exit) ⨾ now (marks .exit) ⨾ tt)
+        ≡ At (PlaceOf (now (list .entry)) k) SetIdentityScalingDeed (now (w .entry)) (now (u .entry)) (now (v .entry)) (now (eta .entry)) (now (d .entry))
+        (now (marks .entry)) ⌝ }
 {
     let p = conewalk::place_of(list, k);
-    list_identity::set_identity_scaling_at(p, w, u, v, eta, d)
+    list_identity::set_identity_scaling_at(p, w, u, v, eta, d, marks)
 }
 
 pub fn update_scaling(
@@ -72,43 +74,61 @@ pub fn update_scaling(
     v: &mut [f64],
     eta: &mut [f64],
     d: &mut [f64],
+    marks: &mut [u8],
 ) -> Scaling
-    ensures { λ r. ⌜ tells (ofScaling r) (now (w .exit) ⨾ now (lambda .exit) ⨾ now (u .exit) ⨾ now (v .exit) ⨾ now (eta .exit) ⨾ now (d .exit) ⨾ tt)
+    ensures { λ r. ⌜ tells (ofScaling r) (now (w .exit) ⨾ now (lambda .exit) ⨾ now (u .exit) ⨾ now (v .exit) ⨾ now (eta .exit) ⨾ now (d .exit) ⨾ now (marks .exit) ⨾ tt)
         ≡ At (PlaceOf (now (list .entry)) k) UpdateScalingDeed (now (w .entry)) (now (lambda .entry)) (now (u .entry)) (now (v .entry)) (now (eta .entry))
-        (now (d .entry)) (now (s .entry)) (now (z .entry)) ⌝ }
+        (now (d .entry)) (now (marks .entry)) (now (s .entry)) (now (z .entry)) ⌝ }
 {
     let p = conewalk::place_of(list, k);
-    list_scaling::update_scaling_at(p, s, z, w, lambda, u, v, eta, d)
+    list_scaling::update_scaling_at(p, s, z, w, lambda, u, v, eta, d, marks)
 }
 
-pub fn get_hs(list: &[Cone], k: usize, hs: &mut [f64], w: &[f64], eta: &[f64], d: &[f64]) -> Answer
+pub fn get_hs(
+    list: &[Cone],
+    k: usize,
+    hs: &mut [f64],
+    w: &[f64],
+    eta: &[f64],
+    d: &[f64],
+    marks: &[u8],
+) -> Answer
     ensures { λ r. ⌜ tells (ofAnswer r) (now (hs .exit) ⨾ tt)
-        ≡ At (PlaceOf (now (list .entry)) k) GetHsDeed (now (hs .entry)) (now (w .entry)) (now (eta .entry)) (now (d .entry)) ⌝ }
+        ≡ At (PlaceOf (now (list .entry)) k) GetHsDeed (now (hs .entry)) (now (w .entry)) (now (eta .entry)) (now (d .entry)) (now (marks .entry)) ⌝ }
 {
     let p = conewalk::place_of(list, k);
-    list_blocks::get_hs_at(p, hs, w, eta, d)
+    list_blocks::get_hs_at(p, hs, w, eta, d, marks)
 }
 
-pub fn square_hs(list: &[Cone], k: usize, w: &[f64], eta: &[f64]) -> Square
-    ensures { λ r. ⌜ ofSquare r ≡ AsSquared (At (PlaceOf (now (list .entry)) k) SquareHsDeed (now (w .entry)) (now (eta .entry)) .ruling) ⌝ }
+pub fn square_hs(list: &[Cone], k: usize, w: &[f64], eta: &[f64], marks: &[u8]) -> Square
+    ensures { λ r. ⌜ ofSquare r ≡ AsSquared (At (PlaceOf (now (list .entry)) k) SquareHsDeed (now (w .entry)) (now (eta .entry)) (now (marks .entry)) .ruling) ⌝ }
 {
     let p = conewalk::place_of(list, k);
-    list_square::square_hs_at(p, w, eta)
+    list_square::square_hs_at(p, w, eta, marks)
 }
 
-pub fn mul_hs(list: &[Cone], k: usize, y: &mut [f64], x: &[f64], w: &[f64], eta: &[f64]) -> Answer
+pub fn mul_hs(
+    list: &[Cone],
+    k: usize,
+    y: &mut [f64],
+    x: &[f64],
+    w: &[f64],
+    eta: &[f64],
+    marks: &[u8],
+) -> Answer
     ensures { λ r. ⌜ tells (ofAnswer r) (now (y .exit) ⨾ tt)
-        ≡ At (PlaceOf (now (list .entry)) k) MulHsDeed (now (y .entry)) (now (x .entry)) (now (w .entry)) (now (eta .entry)) ⌝ }
+        ≡ At (PlaceOf (now (list .entry)) k) MulHsDeed (now (y .entry)) (now (x .entry)) (now (w .entry)) (now (eta .entry)) (now (marks .entry)) ⌝ }
 {
     let p = conewalk::place_of(list, k);
-    list_mul_hs::mul_hs_at(p, y, x, w, eta)
+    list_mul_hs::mul_hs_at(p, y, x, w, eta, marks)
 }
 
-pub fn affine_ds(list: &[Cone], k: usize, ds: &mut [f64], lambda: &[f64]) -> Answer
-    ensures { λ r. ⌜ tells (ofAnswer r) (now (ds .exit) ⨾ tt) ≡ At (PlaceOf (now (list .entry)) k) AffineDsDeed (now (ds .entry)) (now (lambda .entry)) ⌝ }
+pub fn affine_ds(list: &[Cone], k: usize, ds: &mut [f64], lambda: &[f64], marks: &[u8]) -> Answer
+    ensures { λ r. ⌜ tells (ofAnswer r) (now (ds .exit) ⨾ tt)
+        ≡ At (PlaceOf (now (list .entry)) k) AffineDsDeed (now (ds .entry)) (now (lambda .entry)) (now (marks .entry)) ⌝ }
 {
     let p = conewalk::place_of(list, k);
-    list_jordan::affine_ds_at(p, ds, lambda)
+    list_jordan::affine_ds_at(p, ds, lambda, marks)
 }
 
 pub fn combined_ds_shift(
@@ -120,13 +140,14 @@ pub fn combined_ds_shift(
     sigma_mu: f64,
     w: &[f64],
     eta: &[f64],
+    marks: &[u8],
 ) -> Answer
     ensures { λ r. ⌜ tells (ofAnswer r) (now (shift .exit) ⨾ now («step_z» .exit) ⨾ now («step_s» .exit) ⨾ tt)
         ≡ At (PlaceOf (now (list .entry)) k) (CombinedDsShiftDeed «sigma_mu») (now (shift .entry)) (now («step_z» .entry)) (now («step_s» .entry)) (now (w
-        .entry)) (now (eta .entry)) ⌝ }
+        .entry)) (now (eta .entry)) (now (marks .entry)) ⌝ }
 {
     let p = conewalk::place_of(list, k);
-    list_shifts::combined_ds_shift_at(p, shift, step_z, step_s, sigma_mu, w, eta)
+    list_shifts::combined_ds_shift_at(p, shift, step_z, step_s, sigma_mu, w, eta, marks)
 }
 
 pub fn ds_from_dz_offset(
@@ -138,13 +159,14 @@ pub fn ds_from_dz_offset(
     w: &[f64],
     lambda: &[f64],
     eta: &[f64],
+    marks: &[u8],
 ) -> Answer
     ensures { λ r. ⌜ tells (ofAnswer r) (now (out .exit) ⨾ tt)
         ≡ At (PlaceOf (now (list .entry)) k) DsFromDzOffsetDeed (now (out .entry)) (now (ds .entry)) (now (z .entry)) (now (w .entry)) (now (lambda .entry))
-        (now (eta .entry)) ⌝ }
+        (now (eta .entry)) (now (marks .entry)) ⌝ }
 {
     let p = conewalk::place_of(list, k);
-    list_shifts::ds_from_dz_offset_at(p, out, ds, z, w, lambda, eta)
+    list_shifts::ds_from_dz_offset_at(p, out, ds, z, w, lambda, eta, marks)
 }
 
 pub fn step_length(
@@ -171,12 +193,13 @@ pub fn mul_w(
     beta: f64,
     w: &[f64],
     eta: &[f64],
+    marks: &[u8],
 ) -> Answer
     ensures { λ r. ⌜ tells (ofAnswer r) (now (y .exit) ⨾ tt)
-        ≡ At (PlaceOf (now (list .entry)) k) (MulWDeed alpha beta) (now (y .entry)) (now (x .entry)) (now (w .entry)) (now (eta .entry)) ⌝ }
+        ≡ At (PlaceOf (now (list .entry)) k) (MulWDeed alpha beta) (now (y .entry)) (now (x .entry)) (now (w .entry)) (now (eta .entry)) (now (marks .entry)) ⌝ }
 {
     let p = conewalk::place_of(list, k);
-    list_products::mul_w_at(p, y, x, alpha, beta, w, eta)
+    list_products::mul_w_at(p, y, x, alpha, beta, w, eta, marks)
 }
 
 pub fn mul_winv(
@@ -188,12 +211,14 @@ pub fn mul_winv(
     beta: f64,
     w: &[f64],
     eta: &[f64],
+    marks: &[u8],
 ) -> Answer
     ensures { λ r. ⌜ tells (ofAnswer r) (now (y .exit) ⨾ tt)
-        ≡ At (PlaceOf (now (list .entry)) k) (MulWinvDeed alpha beta) (now (y .entry)) (now (x .entry)) (now (w .entry)) (now (eta .entry)) ⌝ }
+        ≡ At (PlaceOf (now (list .entry)) k) (MulWinvDeed alpha beta) (now (y .entry)) (now (x .entry)) (now (w .entry)) (now (eta .entry)) (now (marks
+        .entry)) ⌝ }
 {
     let p = conewalk::place_of(list, k);
-    list_products::mul_winv_at(p, y, x, alpha, beta, w, eta)
+    list_products::mul_winv_at(p, y, x, alpha, beta, w, eta, marks)
 }
 
 pub fn circ_op(list: &[Cone], k: usize, x: &mut [f64], y: &[f64], z: &[f64]) -> Answer
@@ -216,12 +241,13 @@ pub fn lambda_inv_circ_op(
     x: &mut [f64],
     z: &[f64],
     lambda: &[f64],
+    marks: &[u8],
 ) -> Answer
     ensures { λ r. ⌜ tells (ofAnswer r) (now (x .exit) ⨾ tt)
-        ≡ At (PlaceOf (now (list .entry)) k) LambdaInvCircOpDeed (now (x .entry)) (now (z .entry)) (now (lambda .entry)) ⌝ }
+        ≡ At (PlaceOf (now (list .entry)) k) LambdaInvCircOpDeed (now (x .entry)) (now (z .entry)) (now (lambda .entry)) (now (marks .entry)) ⌝ }
 {
     let p = conewalk::place_of(list, k);
-    list_jordan::lambda_inv_circ_op_at(p, x, z, lambda)
+    list_jordan::lambda_inv_circ_op_at(p, x, z, lambda, marks)
 }
 
 pub fn standing(list: &[Cone], k: usize, z: &[f64]) -> Stands

@@ -1,4 +1,5 @@
 -- Each public call's contract leaves one answer and one final contents of what it was lent. Written by tools/surface. Assumes nothing.
+use Prim.Native.Nat.{ℕ}
 use mathlib.Core.Path.{_≡_}
 use mathlib.Core.List.{List}
 use lib.Ieee.{Float}
@@ -9,5 +10,5 @@ use Rattle.conelist.specs.declared.Place.{Place}
 use Rattle.conecalls.specs.Deed.{Whole, Tuple, At}
 use Rattle.list_identity.specs.Identity.{SetIdentityScalingDeed}
 
-pub set-identity-scaling-at : (p : Place) {r r′ : Answer} (w u v η d : List Float) {e e′ : Tuple Whole (SetIdentityScalingDeed .writes)} → tells (ofAnswer r) e ≡ At p SetIdentityScalingDeed w u v η d → tells (ofAnswer r′) e′ ≡ At p SetIdentityScalingDeed w u v η d → (r ≡ r′) × (e ≡ e′)
-set-identity-scaling-at p w u v η d = one-answer
+pub set-identity-scaling-at : (p : Place) {r r′ : Answer} (w u v η d : List Float) (marks : List ℕ) {e e′ : Tuple Whole (SetIdentityScalingDeed .writes)} → tells (ofAnswer r) e ≡ At p SetIdentityScalingDeed w u v η d marks → tells (ofAnswer r′) e′ ≡ At p SetIdentityScalingDeed w u v η d marks → (r ≡ r′) × (e ≡ e′)
+set-identity-scaling-at p w u v η d marks = one-answer

@@ -1,5 +1,5 @@
-// set_identity_scaling of one cone of a list (document 01, "Second-order rules" and "Nonnegative rules"), over the cone's place. For each:
-// by the cone's kind, on the cone's own ranges, and the call. Written by tools/surface.
+// set_identity_scaling of one cone of a list (document 01, "Second-order rules" and "Nonnegative rules"; of marks document 02, item 4),
+// over the cone's place. For each: by the cone's kind, on the cone's own ranges, and the call. Written by tools/surface.
 use answers::Answer;
 use conelist::Kind;
 use conelist::Place;
@@ -10,7 +10,7 @@ ghost use Rattle.answers.specs.Refusal.{Fit};
 ghost use Rattle.answers.specs.Outcome.{tells, ofAnswer, _⨾_};
 ghost use Rattle.conelist.specs.Layout.{LeastDim, Open};
 ghost use Rattle.conecalls.specs.Deed.{At, WorksAt};
-ghost use Rattle.list_identity.specs.Identity.{KindSetIdentityScaling, SetIdentityScalingDeed};
+ghost use Rattle.list_identity.specs.Identity.{KindSetIdentityScaling, SetIdentityScalingUnmarked, SetIdentityScalingDeed};
 
 // ---- set_identity_scaling (source documents 000, lines 121 to 132, and 001, lines 73 to 75): w = (1, 0, ..), eta = 1; above 4 entries
 // also d = 1/2, u = (1/sqrt 2, 0, ..) and v = 0. lambda stays; of a nonnegative cone w = (1, 1, ..)
@@ -47,7 +47,7 @@ fn set_identity_scaling_in(
           .count,
     ) ∷ []) ⌝ }
     ensures { λ _. ⌜ now (w .exit) ⨾ now (u .exit) ⨾ now (v .exit) ⨾ now (eta .exit) ⨾ now (d .exit) ⨾ tt
-        ≡ WorksAt p SetIdentityScalingDeed (now (w .entry)) (now (u .entry)) (now (v .entry)) (now (eta .entry)) (now (d .entry)) .news ⌝ }
+        ≡ WorksAt p SetIdentityScalingUnmarked (now (w .entry)) (now (u .entry)) (now (v .entry)) (now (eta .entry)) (now (d .entry)) .news ⌝ }
 {
     let at = p.start;
     let kind = p.kind;
@@ -70,9 +70,10 @@ pub fn set_identity_scaling_at(
     v: &mut [f64],
     eta: &mut [f64],
     d: &mut [f64],
+    marks: &mut [u8],
 ) -> Answer
-    ensures { λ r. ⌜ tells (ofAnswer r) (now (w .exit) ⨾ now (u .exit) ⨾ now (v .exit) ⨾ now (eta .exit) ⨾ now (d .exit) ⨾ tt)
-        ≡ At p SetIdentityScalingDeed (now (w .entry)) (now (u .entry)) (now (v .entry)) (now (eta .entry)) (now (d .entry)) ⌝ }
+    ensures { λ r. ⌜ tells (ofAnswer r) (now (w .exit) ⨾ now (u .exit) ⨾ now (v .exit) ⨾ now (eta .exit) ⨾ now (d .exit) ⨾ now (marks .exit) ⨾ tt)
+        ≡ At p SetIdentityScalingDeed (now (w .entry)) (now (u .entry)) (now (v .entry)) (now (eta .entry)) (now (d .entry)) (now (marks .entry)) ⌝ }
 {
     let entries = p.entries;
     let count = p.count;
@@ -80,11 +81,14 @@ pub fn set_identity_scaling_at(
         & (u.len() == entries)
         & (v.len() == entries)
         & (eta.len() == count)
-        & (d.len() == count);
+        & (d.len() == count)
+        & (marks.len() == count);
     let no = conelist::refusal(p, same);
     if no != 0 {
         return Answer::Refused(no);
     }
     set_identity_scaling_in(p, w, u, v, eta, d);
+    let k = p.index;
+    marks[k] = 1;
     Answer::Done
 }

@@ -10,6 +10,8 @@ use Rattle.conelist.specs.declared.Kind.{Kind}
 use Rattle.conelist.specs.declared.Kind.the-variants.{Nonnegative, SecondOrder}
 use Rattle.answers.specs.Outcome.{_⨾_}
 use Rattle.conecalls.specs.Deed.{real, per-entry, Deed, Plain, Writes}
+use Rattle.conecalls.specs.Marked.{Marked}
+use Rattle.marks.specs.Mark.{Unscaled}
 
 unfoldable pub KindCircOp : Kind → (y z : List Float) → List Float
 KindCircOp (Nonnegative n) y z = NonnegCirc y z
@@ -30,12 +32,20 @@ unfoldable pub KindLambdaInvCircOp : Kind → (z lambda : List Float) → List F
 KindLambdaInvCircOp (Nonnegative n) z lambda = NonnegInvCirc lambda z
 KindLambdaInvCircOp (SecondOrder n) z lambda = InvCirc lambda z
 
+abbrev pub LambdaInvCircOpUnmarked : Deed
+LambdaInvCircOpUnmarked = Plain (per-entry real ∷ []) (per-entry real ∷ per-entry real ∷ []) (λ kind x z lambda. Writes (KindLambdaInvCircOp kind z lambda ⨾ tt))
+
+-- document 02, item 4: it reads lambda, so on a Scaled cone alone
 abbrev pub LambdaInvCircOpDeed : Deed
-LambdaInvCircOpDeed = Plain (per-entry real ∷ []) (per-entry real ∷ per-entry real ∷ []) (λ kind x z lambda. Writes (KindLambdaInvCircOp kind z lambda ⨾ tt))
+LambdaInvCircOpDeed = Marked (λ kind m. Unscaled m) LambdaInvCircOpUnmarked
 
 unfoldable pub KindAffineDs : Kind → (lambda : List Float) → List Float
 KindAffineDs (Nonnegative n) lambda = NonnegAffineDs lambda
 KindAffineDs (SecondOrder n) lambda = Circ lambda lambda
 
+abbrev pub AffineDsUnmarked : Deed
+AffineDsUnmarked = Plain (per-entry real ∷ []) (per-entry real ∷ []) (λ kind ds lambda. Writes (KindAffineDs kind lambda ⨾ tt))
+
+-- document 02, item 4: it reads lambda, so on a Scaled cone alone
 abbrev pub AffineDsDeed : Deed
-AffineDsDeed = Plain (per-entry real ∷ []) (per-entry real ∷ []) (λ kind ds lambda. Writes (KindAffineDs kind lambda ⨾ tt))
+AffineDsDeed = Marked (λ kind m. Unscaled m) AffineDsUnmarked

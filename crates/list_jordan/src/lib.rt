@@ -1,5 +1,6 @@
-// affine_ds, circ_op, inv_circ_op, lambda_inv_circ_op of one cone of a list (document 01, "Second-order rules" and "Nonnegative rules"),
-// over the cone's place. For each: by the cone's kind, on the cone's own ranges, and the call. Written by tools/surface.
+// affine_ds, circ_op, inv_circ_op, lambda_inv_circ_op of one cone of a list (document 01, "Second-order rules" and "Nonnegative rules"; of
+// marks document 02, item 4), over the cone's place. For each: by the cone's kind, on the cone's own ranges, and the call. Written by
+// tools/surface.
 use answers::Answer;
 use conelist::Kind;
 use conelist::Place;
@@ -10,7 +11,7 @@ ghost use Rattle.answers.specs.Refusal.{Fit};
 ghost use Rattle.answers.specs.Outcome.{tells, ofAnswer, _⨾_};
 ghost use Rattle.conelist.specs.Layout.{LeastDim, Open};
 ghost use Rattle.conecalls.specs.Deed.{At, WorksAt};
-ghost use Rattle.list_jordan.specs.Jordan.{KindAffineDs, AffineDsDeed, KindCircOp, CircOpDeed, KindInvCircOp, InvCircOpDeed, KindLambdaInvCircOp, LambdaInvCircOpDeed};
+ghost use Rattle.list_jordan.specs.Jordan.{KindAffineDs, AffineDsUnmarked, AffineDsDeed, KindCircOp, CircOpDeed, KindInvCircOp, InvCircOpDeed, KindLambdaInvCircOp, LambdaInvCircOpUnmarked, LambdaInvCircOpDeed};
 
 // ---- affine_ds (source documents 000, lines 258 to 260, and 001, lines 110 to 115): ds = lambda's Jordan product with itself; of a
 // nonnegative cone ds = lambda*lambda
@@ -27,7 +28,7 @@ fn kind_affine_ds(kind: Kind, ds: &mut [f64], lambda: &[f64])
 
 fn affine_ds_in(p: Place, ds: &mut [f64], lambda: &[f64])
     requires { ⌜ Open p ((length (now ds), p .entries) ∷ (length (now lambda), p .entries) ∷ []) ⌝ }
-    ensures { λ _. ⌜ now (ds .exit) ⨾ tt ≡ WorksAt p AffineDsDeed (now (ds .entry)) (now (lambda .entry)) .news ⌝ }
+    ensures { λ _. ⌜ now (ds .exit) ⨾ tt ≡ WorksAt p AffineDsUnmarked (now (ds .entry)) (now (lambda .entry)) .news ⌝ }
 {
     let at = p.start;
     let kind = p.kind;
@@ -35,12 +36,13 @@ fn affine_ds_in(p: Place, ds: &mut [f64], lambda: &[f64])
     kind_affine_ds(kind, &mut ds[at..end], &lambda[at..end]);
 }
 
-pub fn affine_ds_at(p: Place, ds: &mut [f64], lambda: &[f64]) -> Answer
-    ensures { λ r. ⌜ tells (ofAnswer r) (now (ds .exit) ⨾ tt) ≡ At p AffineDsDeed (now (ds .entry)) (now (lambda .entry)) ⌝ }
+pub fn affine_ds_at(p: Place, ds: &mut [f64], lambda: &[f64], marks: &[u8]) -> Answer
+    ensures { λ r. ⌜ tells (ofAnswer r) (now (ds .exit) ⨾ tt) ≡ At p AffineDsDeed (now (ds .entry)) (now (lambda .entry)) (now (marks .entry)) ⌝ }
 {
     let entries = p.entries;
-    let same = (ds.len() == entries) & (lambda.len() == entries);
-    let no = conelist::refusal(p, same);
+    let count = p.count;
+    let same = (ds.len() == entries) & (lambda.len() == entries) & (marks.len() == count);
+    let no = marks::refusal(p, same, marks::unscaled(p, marks));
     if no != 0 {
         return Answer::Refused(no);
     }
@@ -135,7 +137,7 @@ fn kind_lambda_inv_circ_op(kind: Kind, x: &mut [f64], z: &[f64], lambda: &[f64])
 
 fn lambda_inv_circ_op_in(p: Place, x: &mut [f64], z: &[f64], lambda: &[f64])
     requires { ⌜ Open p ((length (now x), p .entries) ∷ (length (now z), p .entries) ∷ (length (now lambda), p .entries) ∷ []) ⌝ }
-    ensures { λ _. ⌜ now (x .exit) ⨾ tt ≡ WorksAt p LambdaInvCircOpDeed (now (x .entry)) (now (z .entry)) (now (lambda .entry)) .news ⌝ }
+    ensures { λ _. ⌜ now (x .exit) ⨾ tt ≡ WorksAt p LambdaInvCircOpUnmarked (now (x .entry)) (now (z .entry)) (now (lambda .entry)) .news ⌝ }
 {
     let at = p.start;
     let kind = p.kind;
@@ -143,12 +145,22 @@ fn lambda_inv_circ_op_in(p: Place, x: &mut [f64], z: &[f64], lambda: &[f64])
     kind_lambda_inv_circ_op(kind, &mut x[at..end], &z[at..end], &lambda[at..end]);
 }
 
-pub fn lambda_inv_circ_op_at(p: Place, x: &mut [f64], z: &[f64], lambda: &[f64]) -> Answer
-    ensures { λ r. ⌜ tells (ofAnswer r) (now (x .exit) ⨾ tt) ≡ At p LambdaInvCircOpDeed (now (x .entry)) (now (z .entry)) (now (lambda .entry)) ⌝ }
+pub fn lambda_inv_circ_op_at(
+    p: Place,
+    x: &mut [f64],
+    z: &[f64],
+    lambda: &[f64],
+    marks: &[u8],
+) -> Answer
+    ensures { λ r. ⌜ tells (ofAnswer r) (now (x .exit) ⨾ tt) ≡ At p LambdaInvCircOpDeed (now (x .entry)) (now (z .entry)) (now (lambda .entry)) (now (marks .entry)) ⌝ }
 {
     let entries = p.entries;
-    let same = (x.len() == entries) & (z.len() == entries) & (lambda.len() == entries);
-    let no = conelist::refusal(p, same);
+    let count = p.count;
+    let same = (x.len() == entries)
+        & (z.len() == entries)
+        & (lambda.len() == entries)
+        & (marks.len() == count);
+    let no = marks::refusal(p, same, marks::unscaled(p, marks));
     if no != 0 {
         return Answer::Refused(no);
     }

@@ -8,10 +8,16 @@ use Rattle.conelist.specs.declared.Kind.{Kind}
 use Rattle.conelist.specs.declared.Kind.the-variants.{Nonnegative, SecondOrder}
 use Rattle.answers.specs.Outcome.{_⨾_}
 use Rattle.conecalls.specs.Deed.{real, per-entry, per-cone, Deed, Plain, Writes}
+use Rattle.conecalls.specs.Marked.{Marked}
+use Rattle.marks.specs.Mark.{Unset}
 
 unfoldable pub KindMulHs : Kind → (x w : List Float) (η : Float) → List Float
 KindMulHs (Nonnegative n) x w η = NonnegMulHs x w
 KindMulHs (SecondOrder n) x w η = MulHs x w η
 
+abbrev pub MulHsUnmarked : Deed
+MulHsUnmarked = Plain (per-entry real ∷ []) (per-entry real ∷ per-entry real ∷ per-cone real ∷ []) (λ kind y x w η. Writes (KindMulHs kind x w η ⨾ tt))
+
+-- document 02, item 4: it reads w and η, so not on a Fresh cone
 abbrev pub MulHsDeed : Deed
-MulHsDeed = Plain (per-entry real ∷ []) (per-entry real ∷ per-entry real ∷ per-cone real ∷ []) (λ kind y x w η. Writes (KindMulHs kind x w η ⨾ tt))
+MulHsDeed = Marked (λ kind m. Unset m) MulHsUnmarked

@@ -1,5 +1,5 @@
-// mul_w, mul_winv of one cone of a list (document 01, "Second-order rules" and "Nonnegative rules"), over the cone's place. For each: by
-// the cone's kind, on the cone's own ranges, and the call. Written by tools/surface.
+// mul_w, mul_winv of one cone of a list (document 01, "Second-order rules" and "Nonnegative rules"; of marks document 02, item 4), over the
+// cone's place. For each: by the cone's kind, on the cone's own ranges, and the call. Written by tools/surface.
 use answers::Answer;
 use conelist::Kind;
 use conelist::Place;
@@ -10,7 +10,7 @@ ghost use Rattle.answers.specs.Refusal.{Fit};
 ghost use Rattle.answers.specs.Outcome.{tells, ofAnswer, _⨾_};
 ghost use Rattle.conelist.specs.Layout.{LeastDim, Open};
 ghost use Rattle.conecalls.specs.Deed.{At, WorksAt};
-ghost use Rattle.list_products.specs.Product.{KindMulW, MulWDeed, KindMulWinv, MulWinvDeed};
+ghost use Rattle.list_products.specs.Product.{KindMulW, MulWUnmarked, MulWDeed, KindMulWinv, MulWinvUnmarked, MulWinvDeed};
 
 // ---- mul_w (source documents 000, lines 329 to 332 and 504 to 516, and 001, lines 181 to 187): y = alpha*W*x + beta*y; of a nonnegative
 // cone y = alpha*(x*w) + beta*y
@@ -27,7 +27,7 @@ fn kind_mul_w(kind: Kind, y: &mut [f64], x: &[f64], alpha: f64, beta: f64, w: &[
 
 fn mul_w_in(p: Place, y: &mut [f64], x: &[f64], alpha: f64, beta: f64, w: &[f64], eta: &[f64])
     requires { ⌜ Open p ((length (now y), p .entries) ∷ (length (now x), p .entries) ∷ (length (now w), p .entries) ∷ (length (now eta), p .count) ∷ []) ⌝ }
-    ensures { λ _. ⌜ now (y .exit) ⨾ tt ≡ WorksAt p (MulWDeed alpha beta) (now (y .entry)) (now (x .entry)) (now (w .entry)) (now (eta .entry)) .news ⌝ }
+    ensures { λ _. ⌜ now (y .exit) ⨾ tt ≡ WorksAt p (MulWUnmarked alpha beta) (now (y .entry)) (now (x .entry)) (now (w .entry)) (now (eta .entry)) .news ⌝ }
 {
     let at = p.start;
     let kind = p.kind;
@@ -52,16 +52,19 @@ pub fn mul_w_at(
     beta: f64,
     w: &[f64],
     eta: &[f64],
+    marks: &[u8],
 ) -> Answer
-    ensures { λ r. ⌜ tells (ofAnswer r) (now (y .exit) ⨾ tt) ≡ At p (MulWDeed alpha beta) (now (y .entry)) (now (x .entry)) (now (w .entry)) (now (eta .entry)) ⌝ }
+    ensures { λ r. ⌜ tells (ofAnswer r) (now (y .exit) ⨾ tt)
+        ≡ At p (MulWDeed alpha beta) (now (y .entry)) (now (x .entry)) (now (w .entry)) (now (eta .entry)) (now (marks .entry)) ⌝ }
 {
     let entries = p.entries;
     let count = p.count;
     let same = (y.len() == entries)
         & (x.len() == entries)
         & (w.len() == entries)
-        & (eta.len() == count);
-    let no = conelist::refusal(p, same);
+        & (eta.len() == count)
+        & (marks.len() == count);
+    let no = marks::refusal(p, same, marks::unset(p, marks));
     if no != 0 {
         return Answer::Refused(no);
     }
@@ -84,7 +87,7 @@ fn kind_mul_winv(kind: Kind, y: &mut [f64], x: &[f64], alpha: f64, beta: f64, w:
 
 fn mul_winv_in(p: Place, y: &mut [f64], x: &[f64], alpha: f64, beta: f64, w: &[f64], eta: &[f64])
     requires { ⌜ Open p ((length (now y), p .entries) ∷ (length (now x), p .entries) ∷ (length (now w), p .entries) ∷ (length (now eta), p .count) ∷ []) ⌝ }
-    ensures { λ _. ⌜ now (y .exit) ⨾ tt ≡ WorksAt p (MulWinvDeed alpha beta) (now (y .entry)) (now (x .entry)) (now (w .entry)) (now (eta .entry)) .news ⌝ }
+    ensures { λ _. ⌜ now (y .exit) ⨾ tt ≡ WorksAt p (MulWinvUnmarked alpha beta) (now (y .entry)) (now (x .entry)) (now (w .entry)) (now (eta .entry)) .news ⌝ }
 {
     let at = p.start;
     let kind = p.kind;
@@ -109,16 +112,19 @@ pub fn mul_winv_at(
     beta: f64,
     w: &[f64],
     eta: &[f64],
+    marks: &[u8],
 ) -> Answer
-    ensures { λ r. ⌜ tells (ofAnswer r) (now (y .exit) ⨾ tt) ≡ At p (MulWinvDeed alpha beta) (now (y .entry)) (now (x .entry)) (now (w .entry)) (now (eta .entry)) ⌝ }
+    ensures { λ r. ⌜ tells (ofAnswer r) (now (y .exit) ⨾ tt)
+        ≡ At p (MulWinvDeed alpha beta) (now (y .entry)) (now (x .entry)) (now (w .entry)) (now (eta .entry)) (now (marks .entry)) ⌝ }
 {
     let entries = p.entries;
     let count = p.count;
     let same = (y.len() == entries)
         & (x.len() == entries)
         & (w.len() == entries)
-        & (eta.len() == count);
-    let no = conelist::refusal(p, same);
+        & (eta.len() == count)
+        & (marks.len() == count);
+    let no = marks::refusal(p, same, marks::unset(p, marks));
     if no != 0 {
         return Answer::Refused(no);
     }

@@ -1,5 +1,5 @@
 // `update_scaling` of one cone of a list (document 01, "Second-order rules" and "Nonnegative rules"; source documents 000, lines 134 to 211, and
-// 001, lines 77 to 90), over the cone's place: by the cone's kind, on the cone's own ranges, and the call.
+// 001, lines 77 to 90), over the cone's place: by the cone's kind, on the cone's own ranges, and the call, which sets the mark (document 02, item 4).
 use answers::Scaling;
 use conelist::Kind;
 use conelist::Place;
@@ -11,7 +11,7 @@ ghost use Rattle.answers.specs.Outcome.{truth, tells, ofScaling, _⨾_};
 ghost use Rattle.soc_scaling.specs.Scaling.{Stored};
 ghost use Rattle.conelist.specs.Layout.{LeastDim, Fits, Open};
 ghost use Rattle.conecalls.specs.Deed.{At, WorksAt};
-ghost use Rattle.list_scaling.specs.Scaling.{KindScaling, UpdateScalingDeed, LengthsAt};
+ghost use Rattle.list_scaling.specs.Scaling.{KindScaling, UpdateScalingUnmarked, UpdateScalingDeed, LengthsAt};
 
 // A nonnegative cone uses no u, v, η, d: they stay.
 fn kind_scaling(
@@ -58,7 +58,7 @@ fn scaling_in(
       reply = truth r;
       news = (now (w .exit) ⨾ now (lambda .exit) ⨾ now (u .exit) ⨾ now (v .exit) ⨾ now (eta .exit) ⨾ now (d .exit) ⨾ tt);
     }
-        ≡ WorksAt p UpdateScalingDeed (now (w .entry)) (now (lambda .entry)) (now (u .entry)) (now (v .entry)) (now (eta .entry)) (now (d .entry))
+        ≡ WorksAt p UpdateScalingUnmarked (now (w .entry)) (now (lambda .entry)) (now (u .entry)) (now (v .entry)) (now (eta .entry)) (now (d .entry))
         (now (s .entry)) (now (z .entry)) ⌝ }
 {
     let at = p.start;
@@ -89,18 +89,22 @@ pub fn update_scaling_fit(
     v: &mut [f64],
     eta: &mut [f64],
     d: &mut [f64],
+    marks: &mut [u8],
 ) -> Scaling
-    requires { ⌜ Fits (LengthsAt p (now s) (now z) (now w) (now lambda) (now u) (now v) (now eta) (now d)) ⌝ }
+    requires { ⌜ Fits (LengthsAt p (now s) (now z) (now w) (now lambda) (now u) (now v) (now eta) (now d) (now marks)) ⌝ }
     ensures { λ r. ⌜ tells (ofScaling r)
-        (now (w .exit) ⨾ now (lambda .exit) ⨾ now (u .exit) ⨾ now (v .exit) ⨾ now (eta .exit) ⨾ now (d .exit) ⨾ tt)
+        (now (w .exit) ⨾ now (lambda .exit) ⨾ now (u .exit) ⨾ now (v .exit) ⨾ now (eta .exit) ⨾ now (d .exit) ⨾ now (marks .exit) ⨾ tt)
         ≡ At p UpdateScalingDeed (now (w .entry)) (now (lambda .entry)) (now (u .entry)) (now (v .entry)) (now (eta .entry)) (now (d .entry))
-        (now (s .entry)) (now (z .entry)) ⌝ }
+        (now (marks .entry)) (now (s .entry)) (now (z .entry)) ⌝ }
 {
     let no = conelist::spot(p);
     if no != 0 {
         return Scaling::Refused(no);
     }
-    Scaling::Truth(scaling_in(p, s, z, w, lambda, u, v, eta, d))
+    let truth = scaling_in(p, s, z, w, lambda, u, v, eta, d);
+    let k = p.index;
+    marks::set_scaled(marks, k, truth);
+    Scaling::Truth(truth)
 }
 
 pub fn update_scaling_at(
@@ -113,11 +117,12 @@ pub fn update_scaling_at(
     v: &mut [f64],
     eta: &mut [f64],
     d: &mut [f64],
+    marks: &mut [u8],
 ) -> Scaling
     ensures { λ r. ⌜ tells (ofScaling r)
-        (now (w .exit) ⨾ now (lambda .exit) ⨾ now (u .exit) ⨾ now (v .exit) ⨾ now (eta .exit) ⨾ now (d .exit) ⨾ tt)
+        (now (w .exit) ⨾ now (lambda .exit) ⨾ now (u .exit) ⨾ now (v .exit) ⨾ now (eta .exit) ⨾ now (d .exit) ⨾ now (marks .exit) ⨾ tt)
         ≡ At p UpdateScalingDeed (now (w .entry)) (now (lambda .entry)) (now (u .entry)) (now (v .entry)) (now (eta .entry)) (now (d .entry))
-        (now (s .entry)) (now (z .entry)) ⌝ }
+        (now (marks .entry)) (now (s .entry)) (now (z .entry)) ⌝ }
 {
     let entries = p.entries;
     let count = p.count;
@@ -127,11 +132,15 @@ pub fn update_scaling_at(
         & (v.len() == entries)
         & (eta.len() == count)
         & (d.len() == count)
+        & (marks.len() == count)
         & (s.len() == entries)
         & (z.len() == entries);
     let no = conelist::refusal(p, same);
     if no != 0 {
         return Scaling::Refused(no);
     }
-    Scaling::Truth(scaling_in(p, s, z, w, lambda, u, v, eta, d))
+    let truth = scaling_in(p, s, z, w, lambda, u, v, eta, d);
+    let k = p.index;
+    marks::set_scaled(marks, k, truth);
+    Scaling::Truth(truth)
 }

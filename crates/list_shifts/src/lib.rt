@@ -1,5 +1,6 @@
-// scaled_unit_shift, combined_ds_shift, ds_from_dz_offset of one cone of a list (document 01, "Second-order rules" and "Nonnegative
-// rules"), over the cone's place. For each: by the cone's kind, on the cone's own ranges, and the call. Written by tools/surface.
+// scaled_unit_shift, combined_ds_shift, ds_from_dz_offset of one cone of a list (document 01, "Second-order rules" and "Nonnegative rules";
+// of marks document 02, item 4), over the cone's place. For each: by the cone's kind, on the cone's own ranges, and the call. Written by
+// tools/surface.
 use answers::Answer;
 use conelist::Kind;
 use conelist::Place;
@@ -10,7 +11,7 @@ ghost use Rattle.answers.specs.Refusal.{Fit};
 ghost use Rattle.answers.specs.Outcome.{tells, ofAnswer, _⨾_};
 ghost use Rattle.conelist.specs.Layout.{LeastDim, Open};
 ghost use Rattle.conecalls.specs.Deed.{At, WorksAt};
-ghost use Rattle.list_shifts.specs.Shift.{KindScaledUnitShift, ScaledUnitShiftDeed, KindCombinedDsShift, CombinedDsShiftDeed, KindDsFromDzOffset, DsFromDzOffsetDeed};
+ghost use Rattle.list_shifts.specs.Shift.{KindScaledUnitShift, ScaledUnitShiftDeed, KindCombinedDsShift, CombinedDsShiftUnmarked, CombinedDsShiftDeed, KindDsFromDzOffset, DsFromDzOffsetUnmarked, DsFromDzOffsetDeed};
 
 // ---- scaled_unit_shift (source documents 000, lines 110 to 112, and 001, lines 64 to 66): z += alpha*(1, 0, ..); of a nonnegative cone z
 // += alpha*(1, 1, ..)
@@ -90,8 +91,8 @@ fn combined_ds_shift_in(
     requires { ⌜ Open p ((length (now shift), p .entries) ∷ (length (now «step_z»), p .entries) ∷ (length (now «step_s»), p .entries) ∷ (length (now w), p .entries) ∷
         (length (now eta), p .count) ∷ []) ⌝ }
     ensures { λ _. ⌜ now (shift .exit) ⨾ now («step_z» .exit) ⨾ now («step_s» .exit) ⨾ tt
-        ≡ WorksAt p (CombinedDsShiftDeed «sigma_mu») (now (shift .entry)) (now («step_z» .entry)) (now («step_s» .entry)) (now (w .entry)) (now (eta .entry))
-        .news ⌝ }
+        ≡ WorksAt p (CombinedDsShiftUnmarked «sigma_mu») (now (shift .entry)) (now («step_z» .entry)) (now («step_s» .entry)) (now (w .entry)) (now (eta
+        .entry)) .news ⌝ }
 {
     let at = p.start;
     let kind = p.kind;
@@ -116,9 +117,11 @@ pub fn combined_ds_shift_at(
     sigma_mu: f64,
     w: &[f64],
     eta: &[f64],
+    marks: &[u8],
 ) -> Answer
     ensures { λ r. ⌜ tells (ofAnswer r) (now (shift .exit) ⨾ now («step_z» .exit) ⨾ now («step_s» .exit) ⨾ tt)
-        ≡ At p (CombinedDsShiftDeed «sigma_mu») (now (shift .entry)) (now («step_z» .entry)) (now («step_s» .entry)) (now (w .entry)) (now (eta .entry)) ⌝ }
+        ≡ At p (CombinedDsShiftDeed «sigma_mu») (now (shift .entry)) (now («step_z» .entry)) (now («step_s» .entry)) (now (w .entry)) (now (eta .entry)) (now
+        (marks .entry)) ⌝ }
 {
     let entries = p.entries;
     let count = p.count;
@@ -126,8 +129,9 @@ pub fn combined_ds_shift_at(
         & (step_z.len() == entries)
         & (step_s.len() == entries)
         & (w.len() == entries)
-        & (eta.len() == count);
-    let no = conelist::refusal(p, same);
+        & (eta.len() == count)
+        & (marks.len() == count);
+    let no = marks::refusal(p, same, marks::unset(p, marks));
     if no != 0 {
         return Answer::Refused(no);
     }
@@ -171,7 +175,8 @@ fn ds_from_dz_offset_in(
       p .entries,
     ) ∷ (length (now eta), p .count) ∷ []) ⌝ }
     ensures { λ _. ⌜ now (out .exit) ⨾ tt
-        ≡ WorksAt p DsFromDzOffsetDeed (now (out .entry)) (now (ds .entry)) (now (z .entry)) (now (w .entry)) (now (lambda .entry)) (now (eta .entry)) .news ⌝ }
+        ≡ WorksAt p DsFromDzOffsetUnmarked (now (out .entry)) (now (ds .entry)) (now (z .entry)) (now (w .entry)) (now (lambda .entry)) (now (eta .entry))
+        .news ⌝ }
 {
     let at = p.start;
     let kind = p.kind;
@@ -196,9 +201,11 @@ pub fn ds_from_dz_offset_at(
     w: &[f64],
     lambda: &[f64],
     eta: &[f64],
+    marks: &[u8],
 ) -> Answer
     ensures { λ r. ⌜ tells (ofAnswer r) (now (out .exit) ⨾ tt)
-        ≡ At p DsFromDzOffsetDeed (now (out .entry)) (now (ds .entry)) (now (z .entry)) (now (w .entry)) (now (lambda .entry)) (now (eta .entry)) ⌝ }
+        ≡ At p DsFromDzOffsetDeed (now (out .entry)) (now (ds .entry)) (now (z .entry)) (now (w .entry)) (now (lambda .entry)) (now (eta .entry)) (now (marks
+        .entry)) ⌝ }
 {
     let entries = p.entries;
     let count = p.count;
@@ -207,8 +214,9 @@ pub fn ds_from_dz_offset_at(
         & (z.len() == entries)
         & (w.len() == entries)
         & (lambda.len() == entries)
-        & (eta.len() == count);
-    let no = conelist::refusal(p, same);
+        & (eta.len() == count)
+        & (marks.len() == count);
+    let no = marks::refusal(p, same, marks::offset_unscaled(p, marks));
     if no != 0 {
         return Answer::Refused(no);
     }

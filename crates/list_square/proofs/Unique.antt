@@ -1,4 +1,5 @@
 -- Each public call's contract leaves one answer and one final contents of what it was lent. Assumes nothing.
+use Prim.Native.Nat.{ℕ}
 use mathlib.Core.Path.{_≡_}
 use mathlib.Core.List.{List}
 use lib.Ieee.{Float}
@@ -10,5 +11,5 @@ use Rattle.conecalls.specs.Deed.{At}
 use Rattle.list_square.specs.Square.{SquareHsDeed}
 
 module _ (p : Place) where
-  square-hs-at : {r r′ : Square} (w η : List Float) → ofSquare r ≡ AsSquared (At p SquareHsDeed w η .ruling) → ofSquare r′ ≡ AsSquared (At p SquareHsDeed w η .ruling) → r ≡ r′
-  square-hs-at w η = one-square
+  square-hs-at : {r r′ : Square} (w η : List Float) (marks : List ℕ) → ofSquare r ≡ AsSquared (At p SquareHsDeed w η marks .ruling) → ofSquare r′ ≡ AsSquared (At p SquareHsDeed w η marks .ruling) → r ≡ r′
+  square-hs-at w η marks = one-square

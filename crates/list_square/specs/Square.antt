@@ -8,20 +8,23 @@ use Rattle.conelist.specs.declared.Kind.{Kind}
 use Rattle.conelist.specs.declared.Kind.the-variants.{Nonnegative, SecondOrder}
 use Rattle.soc_square.specs.Square.{SquareHs}
 use Rattle.conecalls.specs.Deed.{real, per-entry, per-cone, Deed}
+use Rattle.conecalls.specs.Marked.{Marked}
+use Rattle.marks.specs.Mark.{Unset}
 
 -- 7: the square block is asked of a cone that is not dense
 unfoldable pub KindNotDense : Kind → ℕ
 KindNotDense (Nonnegative n) = 7
 KindNotDense (SecondOrder n) = NotDense n
 
--- the square block, from w and η: 7 ranks before 5
+-- the square block, from w, η and the mark (document 02, item 4: not on a Fresh cone). 7 ranks before 5
 abbrev pub SquareHsDeed : Deed
 SquareHsDeed =
-    record {
+    Marked (λ kind m. Unset m)
+    (record {
       writes = [];
       reads = per-entry real ∷ per-cone real ∷ [];
       early = λ kind. KindNotDense kind ∷ [];
       late = λ kind w η. [];
       Replies = List (List Float);
       rule = λ kind w η. record { reply = SquareHs w η; news = tt };
-    }
+    })

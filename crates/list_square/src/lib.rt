@@ -1,5 +1,5 @@
 // The block Hs of one cone of a list as a square matrix (document 01, "Forms by place"; source document 000, lines 217 to 246), over the
-// cone's place: on the cone's own ranges, and the call.
+// cone's place: on the cone's own ranges, and the call, which needs a mark (document 02, item 4).
 use answers::Row;
 use answers::Square;
 use conelist::Kind;
@@ -25,15 +25,16 @@ fn dense_refusal(kind: Kind) -> u8
     }
 }
 
-// The refusals of a call for the square block: 7 ranks before 5. `same` says that each slice has its length.
-fn square_refusal(p: Place, same: bool) -> u8
-    ensures { λ r. ⌜ r ≡ (Spot p ⊳ KindNotDense (p .kind)) ⊳ Unlike same ⌝ }
+// The refusals of a call for the square block: 7 ranks before 5, and the mark's 8 last. `same` says that each slice has its length.
+fn square_refusal(p: Place, same: bool, unfit: u8) -> u8
+    ensures { λ r. ⌜ r ≡ ((Spot p ⊳ KindNotDense (p .kind)) ⊳ Unlike same) ⊳ unfit ⌝ }
 {
     let kind = p.kind;
     let placed = conelist::spot(p);
     let dense = dense_refusal(kind);
     let long = answers::length_refusal(same);
-    answers::first_refusal(answers::first_refusal(placed, dense), long)
+    let open = answers::first_refusal(answers::first_refusal(placed, dense), long);
+    answers::first_refusal(open, unfit)
 }
 
 fn square_in(p: Place, w: &[f64], eta: &[f64]) -> [Row; 4]
@@ -47,12 +48,13 @@ fn square_in(p: Place, w: &[f64], eta: &[f64]) -> [Row; 4]
     soc_square::square_hs(&w[at..end], eta[k])
 }
 
-pub fn square_hs_at(p: Place, w: &[f64], eta: &[f64]) -> Square
-    ensures { λ r. ⌜ ofSquare r ≡ AsSquared (At p SquareHsDeed (now (w .entry)) (now (eta .entry)) .ruling) ⌝ }
+pub fn square_hs_at(p: Place, w: &[f64], eta: &[f64], marks: &[u8]) -> Square
+    ensures { λ r. ⌜ ofSquare r ≡ AsSquared (At p SquareHsDeed (now (w .entry)) (now (eta .entry)) (now (marks .entry)) .ruling) ⌝ }
 {
     let entries = p.entries;
     let count = p.count;
-    let no = square_refusal(p, (w.len() == entries) & (eta.len() == count));
+    let same = (w.len() == entries) & (eta.len() == count) & (marks.len() == count);
+    let no = square_refusal(p, same, marks::unset(p, marks));
     if no != 0 {
         return soc_square::no_square(no);
     }

@@ -67,12 +67,14 @@ pub fn set_identity_scaling(
     v: &mut [f64],
     eta: &mut [f64],
     d: &mut [f64],
+    marks: &mut [u8],
 ) -> Answer
-    ensures { λ r. ⌜ tells (ofAnswer r) (now (w .exit) ⨾ now (u .exit) ⨾ now (v .exit) ⨾ now (eta .exit) ⨾ now (d .exit) ⨾ tt)
-        ≡ At (PlaceOf (take cones list) k) SetIdentityScalingDeed (now (w .entry)) (now (u .entry)) (now (v .entry)) (now (eta .entry)) (now (d .entry)) ⌝ }
+    ensures { λ r. ⌜ tells (ofAnswer r) (now (w .exit) ⨾ now (u .exit) ⨾ now (v .exit) ⨾ now (eta .exit) ⨾ now (d .exit) ⨾ now (marks .exit) ⨾ tt)
+        ≡ At (PlaceOf (take cones list) k) SetIdentityScalingDeed (now (w .entry)) (now (u .entry)) (now (v .entry)) (now (eta .entry)) (now (d .entry)) (now
+        (marks .entry)) ⌝ }
 {
     let few = local_rows::held(cones);
-    list_calls::set_identity_scaling(&list[..few], k, w, u, v, eta, d)
+    list_calls::set_identity_scaling(&list[..few], k, w, u, v, eta, d, marks)
 }
 
 pub fn update_scaling(
@@ -87,13 +89,14 @@ pub fn update_scaling(
     v: &mut [f64],
     eta: &mut [f64],
     d: &mut [f64],
+    marks: &mut [u8],
 ) -> Scaling
-    ensures { λ r. ⌜ tells (ofScaling r) (now (w .exit) ⨾ now (lambda .exit) ⨾ now (u .exit) ⨾ now (v .exit) ⨾ now (eta .exit) ⨾ now (d .exit) ⨾ tt)
+    ensures { λ r. ⌜ tells (ofScaling r) (now (w .exit) ⨾ now (lambda .exit) ⨾ now (u .exit) ⨾ now (v .exit) ⨾ now (eta .exit) ⨾ now (d .exit) ⨾ now (marks .exit) ⨾ tt)
         ≡ At (PlaceOf (take cones list) k) UpdateScalingDeed (now (w .entry)) (now (lambda .entry)) (now (u .entry)) (now (v .entry)) (now (eta .entry)) (now
-        (d .entry)) (now (s .entry)) (now (z .entry)) ⌝ }
+        (d .entry)) (now (marks .entry)) (now (s .entry)) (now (z .entry)) ⌝ }
 {
     let few = local_rows::held(cones);
-    list_calls::update_scaling(&list[..few], k, s, z, w, lambda, u, v, eta, d)
+    list_calls::update_scaling(&list[..few], k, s, z, w, lambda, u, v, eta, d, marks)
 }
 
 pub fn get_hs(
@@ -104,19 +107,27 @@ pub fn get_hs(
     w: &[f64],
     eta: &[f64],
     d: &[f64],
+    marks: &[u8],
 ) -> Answer
     ensures { λ r. ⌜ tells (ofAnswer r) (now (hs .exit) ⨾ tt)
-        ≡ At (PlaceOf (take cones list) k) GetHsDeed (now (hs .entry)) (now (w .entry)) (now (eta .entry)) (now (d .entry)) ⌝ }
+        ≡ At (PlaceOf (take cones list) k) GetHsDeed (now (hs .entry)) (now (w .entry)) (now (eta .entry)) (now (d .entry)) (now (marks .entry)) ⌝ }
 {
     let few = local_rows::held(cones);
-    list_calls::get_hs(&list[..few], k, hs, w, eta, d)
+    list_calls::get_hs(&list[..few], k, hs, w, eta, d, marks)
 }
 
-pub fn square_hs(list: [Cone; 257], cones: usize, k: usize, w: &[f64], eta: &[f64]) -> Square
-    ensures { λ r. ⌜ ofSquare r ≡ AsSquared (At (PlaceOf (take cones list) k) SquareHsDeed (now (w .entry)) (now (eta .entry)) .ruling) ⌝ }
+pub fn square_hs(
+    list: [Cone; 257],
+    cones: usize,
+    k: usize,
+    w: &[f64],
+    eta: &[f64],
+    marks: &[u8],
+) -> Square
+    ensures { λ r. ⌜ ofSquare r ≡ AsSquared (At (PlaceOf (take cones list) k) SquareHsDeed (now (w .entry)) (now (eta .entry)) (now (marks .entry)) .ruling) ⌝ }
 {
     let few = local_rows::held(cones);
-    list_calls::square_hs(&list[..few], k, w, eta)
+    list_calls::square_hs(&list[..few], k, w, eta, marks)
 }
 
 pub fn mul_hs(
@@ -127,12 +138,13 @@ pub fn mul_hs(
     x: &[f64],
     w: &[f64],
     eta: &[f64],
+    marks: &[u8],
 ) -> Answer
     ensures { λ r. ⌜ tells (ofAnswer r) (now (y .exit) ⨾ tt)
-        ≡ At (PlaceOf (take cones list) k) MulHsDeed (now (y .entry)) (now (x .entry)) (now (w .entry)) (now (eta .entry)) ⌝ }
+        ≡ At (PlaceOf (take cones list) k) MulHsDeed (now (y .entry)) (now (x .entry)) (now (w .entry)) (now (eta .entry)) (now (marks .entry)) ⌝ }
 {
     let few = local_rows::held(cones);
-    list_calls::mul_hs(&list[..few], k, y, x, w, eta)
+    list_calls::mul_hs(&list[..few], k, y, x, w, eta, marks)
 }
 
 pub fn affine_ds(
@@ -141,11 +153,12 @@ pub fn affine_ds(
     k: usize,
     ds: &mut [f64],
     lambda: &[f64],
+    marks: &[u8],
 ) -> Answer
-    ensures { λ r. ⌜ tells (ofAnswer r) (now (ds .exit) ⨾ tt) ≡ At (PlaceOf (take cones list) k) AffineDsDeed (now (ds .entry)) (now (lambda .entry)) ⌝ }
+    ensures { λ r. ⌜ tells (ofAnswer r) (now (ds .exit) ⨾ tt) ≡ At (PlaceOf (take cones list) k) AffineDsDeed (now (ds .entry)) (now (lambda .entry)) (now (marks .entry)) ⌝ }
 {
     let few = local_rows::held(cones);
-    list_calls::affine_ds(&list[..few], k, ds, lambda)
+    list_calls::affine_ds(&list[..few], k, ds, lambda, marks)
 }
 
 pub fn combined_ds_shift(
@@ -158,13 +171,24 @@ pub fn combined_ds_shift(
     sigma_mu: f64,
     w: &[f64],
     eta: &[f64],
+    marks: &[u8],
 ) -> Answer
     ensures { λ r. ⌜ tells (ofAnswer r) (now (shift .exit) ⨾ now («step_z» .exit) ⨾ now («step_s» .exit) ⨾ tt)
         ≡ At (PlaceOf (take cones list) k) (CombinedDsShiftDeed «sigma_mu») (now (shift .entry)) (now («step_z» .entry)) (now («step_s» .entry)) (now (w
-        .entry)) (now (eta .entry)) ⌝ }
+        .entry)) (now (eta .entry)) (now (marks .entry)) ⌝ }
 {
     let few = local_rows::held(cones);
-    list_calls::combined_ds_shift(&list[..few], k, shift, step_z, step_s, sigma_mu, w, eta)
+    list_calls::combined_ds_shift(
+        &list[..few],
+        k,
+        shift,
+        step_z,
+        step_s,
+        sigma_mu,
+        w,
+        eta,
+        marks,
+    )
 }
 
 pub fn ds_from_dz_offset(
@@ -177,13 +201,14 @@ pub fn ds_from_dz_offset(
     w: &[f64],
     lambda: &[f64],
     eta: &[f64],
+    marks: &[u8],
 ) -> Answer
     ensures { λ r. ⌜ tells (ofAnswer r) (now (out .exit) ⨾ tt)
         ≡ At (PlaceOf (take cones list) k) DsFromDzOffsetDeed (now (out .entry)) (now (ds .entry)) (now (z .entry)) (now (w .entry)) (now (lambda .entry))
-        (now (eta .entry)) ⌝ }
+        (now (eta .entry)) (now (marks .entry)) ⌝ }
 {
     let few = local_rows::held(cones);
-    list_calls::ds_from_dz_offset(&list[..few], k, out, ds, z, w, lambda, eta)
+    list_calls::ds_from_dz_offset(&list[..few], k, out, ds, z, w, lambda, eta, marks)
 }
 
 pub fn step_length(
@@ -212,12 +237,13 @@ pub fn mul_w(
     beta: f64,
     w: &[f64],
     eta: &[f64],
+    marks: &[u8],
 ) -> Answer
     ensures { λ r. ⌜ tells (ofAnswer r) (now (y .exit) ⨾ tt)
-        ≡ At (PlaceOf (take cones list) k) (MulWDeed alpha beta) (now (y .entry)) (now (x .entry)) (now (w .entry)) (now (eta .entry)) ⌝ }
+        ≡ At (PlaceOf (take cones list) k) (MulWDeed alpha beta) (now (y .entry)) (now (x .entry)) (now (w .entry)) (now (eta .entry)) (now (marks .entry)) ⌝ }
 {
     let few = local_rows::held(cones);
-    list_calls::mul_w(&list[..few], k, y, x, alpha, beta, w, eta)
+    list_calls::mul_w(&list[..few], k, y, x, alpha, beta, w, eta, marks)
 }
 
 pub fn mul_winv(
@@ -230,12 +256,13 @@ pub fn mul_winv(
     beta: f64,
     w: &[f64],
     eta: &[f64],
+    marks: &[u8],
 ) -> Answer
     ensures { λ r. ⌜ tells (ofAnswer r) (now (y .exit) ⨾ tt)
-        ≡ At (PlaceOf (take cones list) k) (MulWinvDeed alpha beta) (now (y .entry)) (now (x .entry)) (now (w .entry)) (now (eta .entry)) ⌝ }
+        ≡ At (PlaceOf (take cones list) k) (MulWinvDeed alpha beta) (now (y .entry)) (now (x .entry)) (now (w .entry)) (now (eta .entry)) (now (marks .entry)) ⌝ }
 {
     let few = local_rows::held(cones);
-    list_calls::mul_winv(&list[..few], k, y, x, alpha, beta, w, eta)
+    list_calls::mul_winv(&list[..few], k, y, x, alpha, beta, w, eta, marks)
 }
 
 pub fn circ_op(
@@ -273,11 +300,13 @@ pub fn lambda_inv_circ_op(
     x: &mut [f64],
     z: &[f64],
     lambda: &[f64],
+    marks: &[u8],
 ) -> Answer
-    ensures { λ r. ⌜ tells (ofAnswer r) (now (x .exit) ⨾ tt) ≡ At (PlaceOf (take cones list) k) LambdaInvCircOpDeed (now (x .entry)) (now (z .entry)) (now (lambda .entry)) ⌝ }
+    ensures { λ r. ⌜ tells (ofAnswer r) (now (x .exit) ⨾ tt)
+        ≡ At (PlaceOf (take cones list) k) LambdaInvCircOpDeed (now (x .entry)) (now (z .entry)) (now (lambda .entry)) (now (marks .entry)) ⌝ }
 {
     let few = local_rows::held(cones);
-    list_calls::lambda_inv_circ_op(&list[..few], k, x, z, lambda)
+    list_calls::lambda_inv_circ_op(&list[..few], k, x, z, lambda, marks)
 }
 
 pub fn standing(list: [Cone; 257], cones: usize, k: usize, z: &[f64]) -> Stands

@@ -26,9 +26,11 @@ use Rattle.conelist.specs.declared.Kind.{Kind}
 use Rattle.conelist.specs.declared.Kind.the-variants.{Nonnegative, SecondOrder}
 use Rattle.conelist.specs.Layout.{Dim, LeastDim}
 use Rattle.conecalls.specs.Deed.{Keeps}
+use Rattle.conecalls.proofs.Marked.{keeps-marking}
+use Rattle.marks.specs.Mark.{IdentityMark}
 use Rattle.list_shifts.specs.Shift.{KindScaledUnitShift, ScaledUnitShiftDeed, KindDsFromDzOffset, DsFromDzOffsetDeed, KindCombinedDsShift, CombinedDsShiftDeed}
 use Rattle.list_units.specs.Units.{KindUnit, UnitInitializationDeed}
-use Rattle.list_identity.specs.Identity.{KindSetIdentityScaling, SetIdentityScalingDeed}
+use Rattle.list_identity.specs.Identity.{KindSetIdentityScaling, SetIdentityScalingUnmarked, SetIdentityScalingDeed}
 use Rattle.list_blocks.specs.Block.{KindHs, GetHsDeed}
 use Rattle.list_mul_hs.specs.Block.{KindMulHs, MulHsDeed}
 use Rattle.list_jordan.specs.Jordan.{KindCircOp, CircOpDeed, KindInvCircOp, InvCircOpDeed, KindLambdaInvCircOp, LambdaInvCircOpDeed, KindAffineDs, AffineDsDeed}
@@ -52,10 +54,13 @@ unit-vector (SecondOrder n) m h e = length-unit-vector m (omega arith) ∙ e
 pub unit-initialization : Keeps UnitInitializationDeed
 unit-initialization kind h ws f rs g = (unit-vector kind _ h (f .0), (unit-vector kind _ h (f .1 .0), tt))
 
-pub set-identity-scaling : Keeps SetIdentityScalingDeed
+identity-scaling : Keeps SetIdentityScalingUnmarked
 unfolding KindSetIdentityScaling
-set-identity-scaling (Nonnegative n) h ws f rs g = (unit.length-unit _ ∙ f .0, f .1)
-set-identity-scaling (SecondOrder n) h ws f rs g = lengths-identity n (some h) _ _ _ _ (f .0) (f .1 .0) (f .1 .1 .0)
+identity-scaling (Nonnegative n) h ws f rs g = (unit.length-unit _ ∙ f .0, f .1)
+identity-scaling (SecondOrder n) h ws f rs g = lengths-identity n (some h) _ _ _ _ (f .0) (f .1 .0) (f .1 .1 .0)
+
+pub set-identity-scaling : Keeps SetIdentityScalingDeed
+set-identity-scaling = keeps-marking SetIdentityScalingUnmarked (λ reply m. IdentityMark) identity-scaling
 
 pub get-hs : Keeps GetHsDeed
 unfolding KindHs

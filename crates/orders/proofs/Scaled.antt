@@ -2,52 +2,34 @@
 use Prim.Native.Nat.{ℕ, zero, suc, _+_, _≤_, _<_}
 use native.Mathlib.Omega.{arith}
 use mathlib.Core.Path.{_≡_, refl, sym, ap, ap₂, _∙_, fun-ext, subst}
-use mathlib.Core.Bool.{Bool, true, false, cond, _||_}
+use mathlib.Core.Bool.{Bool, true, false, cond}
 use mathlib.Core.List.{List, [], _∷_, _++_, map, Perm}
 use borrow.Author.Tests.{ne-eqb, lt-ltb}
 use lib.Dec.{ltb}
 use lib.ListN.{length}
-use lib.Ieee.{Float, eq}
-use Rattle.vecmath.specs.Double.{𝟎}
+use lib.Ieee.{Float}
 use Rattle.answers.specs.Refusal.{_⊳_, Unlike}
 use Rattle.answers.specs.Outcome.{Reply, truth, Scaled, all-true, false-at, Ruling, gives, refuses, Outcome, Call, Gives, tells, _⨾_}
 use Rattle.answers.proofs.Laws.{clear-both}
-use Rattle.conelist.specs.declared.Kind.{Kind}
-use Rattle.conelist.specs.declared.Kind.the-variants.{Nonnegative, SecondOrder}
 use Rattle.conelist.specs.declared.Cone.{Cone}
 use Rattle.conelist.specs.declared.Place.{Place}
 use Rattle.conelist.specs.Layout.{BadList, BadPlace, BadRecords, LaidAt, Found, PlaceOf, AllFit}
 use Rattle.conewalk.proofs.Laid.{spot}
 use Rattle.conecalls.specs.Deed.{real, mark, per-entry, per-cone, per-block, Owns, Numbers, Lengths, Tests, Refused, Works, Comes}
 use Rattle.conecalls.proofs.Own.{lengths-kept}
-use Rattle.soc_residual.specs.Residual.{RootScale}
-use Rattle.soc_terms.specs.Terms.{Point}
-use Rattle.soc_scaling.specs.Scaling.{UpdateScaling}
-use Rattle.list_scaling.specs.Scaling.{KindScaling, UpdateScalingDeed as D, LengthsAt}
+use Rattle.list_scaling.specs.Scaling.{IsTrue, UpdateScalingDeed as D, LengthsAt}
 use Rattle.sequences.specs.Rearranged.{Naming, Ended}
 use Rattle.sequences.specs.Local as local
-use Rattle.sequences.specs.Local.{Name, called, Store, After}
-use Rattle.sequences.proofs.Local.{Outside, picked-all, view, same-owns, separate}
+use Rattle.sequences.specs.Local.{Name, called, Store, Outside, After}
+use Rattle.sequences.proofs.Local.{picked-all, view, same-owns, separate}
 use Rattle.sequences.proofs.Rearrange.{unnamed, permuted, by-names}
-use Rattle.whole_scaling.specs.List.{Written, IsTrue, Behind, Singly, Unless, ListUpdateScaling}
+use Rattle.whole_scaling.specs.List.{Written, Behind, Singly, Unless, ListUpdateScaling}
 use Rattle.orders.specs.Calls.{update-scaling, Request, TaskOf, Names, RunAll}
 use Rattle.orders.specs.Scaled.{scale, Holding, Counted, Told}
 use Rattle.orders.proofs.Demand3.{keeps, any-order}
+use Rattle.orders.proofs.Truth.{truthful}
 
 -- ---- a single call
-
--- it answers `truth` alone
-by-tests : {B : Type 0} (a b : Bool) (early late all : B)
-    → let does : Gives Reply B = cond a (record { reply = truth false; news = early }) (cond b (record { reply = truth false; news = late }) (record { reply = truth true; news = all })) in
-    does .reply ≡ truth (IsTrue (does .reply))
-by-tests true b early late all = refl
-by-tests false true early late all = refl
-by-tests false false early late all = refl
-
-truthful : (kind : Kind) (s z w lambda u v : List Float) (η d : Float) → let reply = KindScaling kind s z w lambda u v η d .reply in reply ≡ truth (IsTrue reply)
-unfolding KindScaling UpdateScaling
-truthful (Nonnegative n) s z w lambda u v η d = refl
-truthful (SecondOrder n) s z w lambda u v η d = by-tests (eq (RootScale z) 𝟎 || eq (RootScale s) 𝟎) (eq (RootScale (Point s z (RootScale s) (RootScale z))) 𝟎) _ _ _
 
 -- over such a store it leaves such a store
 stored : (p : Place) (k : ℕ) (ys : Written) (s z : List Float) → After p (TaskOf (scale k)) (Holding ys s z) ≡ Holding (Comes p D ys (s ⨾ z ⨾ tt) .holds) s z
@@ -64,7 +46,8 @@ stored p k ys s z = let news : Written = Comes p D ys (s ⨾ z ⨾ tt) .holds in
     outside news (called (per-cone real) (suc (suc n))) o = refl
     outside news (called (per-block real) n) o = refl
     outside news (called (per-entry mark) n) o = refl
-    outside news (called (per-cone mark) n) o = refl
+    outside news (called (per-cone mark) zero) o = absurd (o .1 .1 .1 .1 .1 .1 .0 refl)
+    outside news (called (per-cone mark) (suc n)) o = refl
     outside news (called (per-block mark) n) o = refl
 
 module _ (list : List Cone) (s z : List Float) where
@@ -165,12 +148,12 @@ asked : (list : List Cone) (ks : List ℕ) (σ : Store) → map (λ t. Names (t 
 asked list [] σ = refl
 asked list (k ∷ ks) σ = ap (λ l. k ∷ l) (asked list ks _)
 
-module _ (list : List Cone) (s z w lambda u v η d : List Float) where
+module _ (list : List Cone) (s z w lambda u v η d : List Float) (marks : List ℕ) where
   abbrev held : Written
-  held = w ⨾ lambda ⨾ u ⨾ v ⨾ η ⨾ d ⨾ tt
+  held = w ⨾ lambda ⨾ u ⨾ v ⨾ η ⨾ d ⨾ marks ⨾ tt
 
   abbrev scaled : Outcome Scaled Written
-  scaled = ListUpdateScaling list s z w lambda u v η d
+  scaled = ListUpdateScaling list s z w lambda u v η d marks
 
   ruled : (r : Ruling Scaled) → scaled .ruling ≡ r → Ends list s z (length list) 0 held r (scaled .holds)
   unfolding Unless
@@ -202,7 +185,7 @@ module _ (list : List Cone) (s z w lambda u v η d : List Float) where
       ∙ unnamed _ _ _ (view list) (separate list TaskOf (λ r. keeps (r .call))) j (map scale (Counted (suc k) 0)) (Holding held s z) (passed (suc k) 0 j (omega arith))) (D .writes) (scale j .writes)
 
   -- "Refusals: as for a single scaling, without 4": the list's and 5 are all there are, and no single call is refused in the middle
-  pub unrefused : BadList list ⊳ Unlike (AllFit (LengthsAt (LaidAt list 0) s z w lambda u v η d)) ≡ 0 → (n : ℕ) → ¬ (scaled .ruling ≡ refuses n)
+  pub unrefused : BadList list ⊳ Unlike (AllFit (LengthsAt (LaidAt list 0) s z w lambda u v η d marks)) ≡ 0 → (n : ℕ) → ¬ (scaled .ruling ≡ refuses n)
   unrefused e n q = ruled (refuses n) q (omega arith) e
 
   -- where every cone answers true, the single calls may be made in any order (demand 3)

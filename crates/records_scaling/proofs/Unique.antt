@@ -9,5 +9,5 @@ use Rattle.answers.proofs.Unique.{one-scalings}
 use Rattle.whole_scaling.specs.List.{Written, ListUpdateScaling}
 use Rattle.records.specs.Record.{Cones}
 
-pub list-update-scaling : {r r′ : Scalings} (list : List (List ℕ)) (s z w lambda u v η d : List Float) {e e′ : Written} → tells (ofScalings r) e ≡ ListUpdateScaling (Cones list) s z w lambda u v η d → tells (ofScalings r′) e′ ≡ ListUpdateScaling (Cones list) s z w lambda u v η d → (r ≡ r′) × (e ≡ e′)
-list-update-scaling list s z w lambda u v η d = one-scalings
+pub list-update-scaling : {r r′ : Scalings} (list : List (List ℕ)) (s z w lambda u v η d : List Float) (marks : List ℕ) {e e′ : Written} → tells (ofScalings r) e ≡ ListUpdateScaling (Cones list) s z w lambda u v η d marks → tells (ofScalings r′) e′ ≡ ListUpdateScaling (Cones list) s z w lambda u v η d marks → (r ≡ r′) × (e ≡ e′)
+list-update-scaling list s z w lambda u v η d marks = one-scalings

@@ -15,12 +15,25 @@ pub fn list_update_scaling(
     v: &mut [f64],
     eta: &mut [f64],
     d: &mut [f64],
+    marks: &mut [u8],
 ) -> Scalings
-    ensures { λ r. ⌜ tells (ofScalings r) (now (w .exit) ⨾ now (lambda .exit) ⨾ now (u .exit) ⨾ now (v .exit) ⨾ now (eta .exit) ⨾ now (d .exit) ⨾ tt)
-        ≡ ListUpdateScaling (Cones (now (list .entry))) (now (s .entry)) (now (z .entry)) (now (w .entry)) (now (lambda .entry)) (now (u .entry)) (now (v .entry)) (now (eta .entry)) (now (d .entry)) ⌝ }
+    ensures { λ r. ⌜ tells (ofScalings r) (now (w .exit) ⨾ now (lambda .exit) ⨾ now (u .exit) ⨾ now (v .exit) ⨾ now (eta .exit) ⨾ now (d .exit) ⨾ now (marks .exit) ⨾ tt)
+        ≡ ListUpdateScaling (Cones (now (list .entry))) (now (s .entry)) (now (z .entry)) (now (w .entry)) (now (lambda .entry)) (now (u .entry)) (now (v .entry)) (now (eta .entry)) (now (d .entry)) (now (marks .entry)) ⌝ }
 {
     let p = records::place_of(list, 0);
-    let mut walk = whole_scaling::scaling_opening(list.len(), p, s, z, w, lambda, u, v, eta, d);
+    let mut walk = whole_scaling::scaling_opening(
+        list.len(),
+        p,
+        s,
+        z,
+        w,
+        lambda,
+        u,
+        v,
+        eta,
+        d,
+        marks,
+    );
     let mut i = 0;
     while i < list.len() {
         walk = whole_scaling::scaling_further(
@@ -34,6 +47,7 @@ pub fn list_update_scaling(
             v,
             eta,
             d,
+            marks,
         );
         i += 1;
     }

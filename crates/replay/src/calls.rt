@@ -6,8 +6,8 @@ use answers::Answer;
 use answers::Steps;
 use conelist::Place;
 
-// A case but for its slices: the call's number, the call's numbers, the cone that it names, how many slices there are, and how many of
-// them the call writes.
+// A case but for its slices: the call's number, the call's numbers, the cone that it names, how many slices there are, how many of them the
+// call writes, and whether the last one is the marks.
 pub struct Case {
     pub call: u64,
     pub a: f64,
@@ -15,6 +15,7 @@ pub struct Case {
     pub place: Place,
     pub slices: usize,
     pub written: usize,
+    pub marked: bool,
 }
 
 // ---- a call that writes nothing: its answer
@@ -47,7 +48,6 @@ fn reads_two(c: Case, x: &[f64], y: &[f64], eta: f64) {
     let call = c.call;
     match call {
         0x106 => case_answers::square(soc_square::soc_square_hs(x, &eta)),
-        0x306 => case_answers::square(list_square::square_hs_at(c.place, x, y)),
         0x112 => case_answers::step(soc_step::soc_step(x, y, c.a)),
         0x212 => case_answers::step(nn_step::nn_step(x, y, c.a)),
         _ => case_answers::residual(soc_residual::soc_residual_shifted(x, y, c.a)),
@@ -75,6 +75,16 @@ fn reads_four(c: Case, row: &[[usize; 3]], words: &[u64], held: &[f64]) {
     ));
 }
 
+fn list_square(c: Case, words: &[u64], held: &[f64]) {
+    let bytes = slices::all_marks(words);
+    case_answers::square(list_square::square_hs_at(
+        c.place,
+        slices::part(words, held, 1),
+        slices::part(words, held, 2),
+        slices::marks(words, &bytes, 3),
+    ));
+}
+
 // ---- a call that writes one slice: first by how many it reads
 
 fn from_none(c: Case, z: &mut [f64]) -> Answer {
@@ -92,8 +102,7 @@ fn from_one(c: Case, x: &mut [f64], y: &[f64]) -> Answer {
     match call {
         0x108 => soc_jordan::soc_affine_ds(x, y),
         0x205 => nn_blocks::nn_get_hs(x, y),
-        0x208 => nn_jordan::nn_affine_ds(x, y),
-        _ => list_jordan::affine_ds_at(c.place, x, y),
+        _ => nn_jordan::nn_affine_ds(x, y),
     }
 }
 
@@ -118,7 +127,6 @@ fn from_two(c: Case, x: &mut [f64], y: &[f64], z: &[f64]) -> Answer {
         0x110 => soc_inverse::soc_lambda_inv_circ_op(x, y, z),
         0x30e => list_jordan::circ_op_at(c.place, x, y, z),
         0x30f => list_jordan::inv_circ_op_at(c.place, x, y, z),
-        0x310 => list_jordan::lambda_inv_circ_op_at(c.place, x, y, z),
         _ => nonnegative_from_two(c, x, y, z),
     }
 }
@@ -141,22 +149,9 @@ fn second_order_from_three(
     }
 }
 
-fn list_from_three(c: Case, y: &mut [f64], x: &[f64], w: &[f64], eta: &[f64]) -> Answer {
-    let call = c.call;
-    match call {
-        0x305 => list_blocks::get_hs_at(c.place, y, x, w, eta),
-        0x307 => list_mul_hs::mul_hs_at(c.place, y, x, w, eta),
-        0x30c => list_products::mul_w_at(c.place, y, x, c.a, c.b, w, eta),
-        _ => list_products::mul_winv_at(c.place, y, x, c.a, c.b, w, eta),
-    }
-}
-
 fn from_three(c: Case, words: &[u64], held: &[f64], y: &mut [f64], x: &[f64], w: &[f64]) -> Answer {
-    if c.call / 256 == 1 {
-        let eta = slices::number(words, held, 3);
-        return second_order_from_three(c, y, x, w, eta, slices::number(words, held, 4));
-    }
-    list_from_three(c, y, x, w, slices::part(words, held, 4))
+    let eta = slices::number(words, held, 3);
+    second_order_from_three(c, y, x, w, eta, slices::number(words, held, 4))
 }
 
 fn one(c: Case, words: &[u64], held: &[f64], x: &mut [f64]) -> Answer {
@@ -191,16 +186,41 @@ fn second_order_offset(words: &[u64], held: &[f64]) {
     slices::told(words, own1, 1);
 }
 
-fn list_offset(c: Case, words: &[u64], held: &[f64]) {
+// One cone of a list, whose mark is read.
+fn list_one(c: Case, words: &[u64], held: &[f64], marks: &[u8], x: &mut [f64]) -> Answer {
+    let y = slices::part(words, held, 2);
+    let z = slices::part(words, held, 3);
+    let w = slices::part(words, held, 4);
+    let call = c.call;
+    match call {
+        0x305 => list_blocks::get_hs_at(c.place, x, y, z, w, marks),
+        0x307 => list_mul_hs::mul_hs_at(c.place, x, y, z, w, marks),
+        0x308 => list_jordan::affine_ds_at(c.place, x, y, marks),
+        0x30a => list_shifts::ds_from_dz_offset_at(
+            c.place,
+            x,
+            y,
+            z,
+            w,
+            slices::part(words, held, 5),
+            slices::part(words, held, 6),
+            marks,
+        ),
+        0x30c => list_products::mul_w_at(c.place, x, y, c.a, c.b, z, w, marks),
+        0x30d => list_products::mul_winv_at(c.place, x, y, c.a, c.b, z, w, marks),
+        _ => list_jordan::lambda_inv_circ_op_at(c.place, x, y, z, marks),
+    }
+}
+
+fn list_writes_one(c: Case, words: &[u64], held: &[f64]) {
     let mut own1 = slices::numbers(words);
-    case_answers::answer(list_shifts::ds_from_dz_offset_at(
-        c.place,
+    let bytes = slices::all_marks(words);
+    case_answers::answer(list_one(
+        c,
+        words,
+        held,
+        slices::marks(words, &bytes, c.slices),
         slices::part_mut(words, &mut own1, 1),
-        slices::part(words, held, 2),
-        slices::part(words, held, 3),
-        slices::part(words, held, 4),
-        slices::part(words, held, 5),
-        slices::part(words, held, 6),
     ));
     slices::told(words, own1, 1);
 }
@@ -266,6 +286,7 @@ fn list_combined(c: Case, words: &[u64], held: &[f64]) {
     let mut own1 = slices::numbers(words);
     let mut own2 = own1;
     let mut own3 = own1;
+    let bytes = slices::all_marks(words);
     case_answers::answer(list_shifts::combined_ds_shift_at(
         c.place,
         slices::part_mut(words, &mut own1, 1),
@@ -274,6 +295,7 @@ fn list_combined(c: Case, words: &[u64], held: &[f64]) {
         c.a,
         slices::part(words, held, 4),
         slices::part(words, held, 5),
+        slices::marks(words, &bytes, 6),
     ));
     slices::told(words, own1, 1);
     slices::told(words, own2, 2);
@@ -306,6 +328,7 @@ fn list_identity(c: Case, words: &[u64]) {
     let mut own3 = own1;
     let mut own4 = own1;
     let mut own5 = own1;
+    let mut own6 = slices::all_marks(words);
     case_answers::answer(list_identity::set_identity_scaling_at(
         c.place,
         slices::part_mut(words, &mut own1, 1),
@@ -313,12 +336,14 @@ fn list_identity(c: Case, words: &[u64]) {
         slices::part_mut(words, &mut own3, 3),
         slices::part_mut(words, &mut own4, 4),
         slices::part_mut(words, &mut own5, 5),
+        slices::marks_mut(words, &mut own6, 6),
     ));
     slices::told(words, own1, 1);
     slices::told(words, own2, 2);
     slices::told(words, own3, 3);
     slices::told(words, own4, 4);
     slices::told(words, own5, 5);
+    slices::told_marks(words, own6, 6);
 }
 
 // An update of a scaling reads two slices first.
@@ -376,6 +401,7 @@ fn scaled(
     v: &mut [f64],
     eta: &mut [f64],
     d: &mut [f64],
+    marks: &mut [u8],
 ) {
     if c.call == 0x313 {
         case_answers::scalings(records_scaling::list_update_scaling(
@@ -388,6 +414,7 @@ fn scaled(
             v,
             eta,
             d,
+            marks,
         ));
     } else {
         case_answers::scaling(list_scaling::update_scaling_at(
@@ -400,6 +427,7 @@ fn scaled(
             v,
             eta,
             d,
+            marks,
         ));
     }
 }
@@ -411,6 +439,7 @@ fn list_scaling(c: Case, row: &[[usize; 3]], words: &[u64], held: &[f64]) {
     let mut own6 = own3;
     let mut own7 = own3;
     let mut own8 = own3;
+    let mut own9 = slices::all_marks(words);
     scaled(
         c,
         row,
@@ -422,6 +451,7 @@ fn list_scaling(c: Case, row: &[[usize; 3]], words: &[u64], held: &[f64]) {
         slices::part_mut(words, &mut own6, 6),
         slices::part_mut(words, &mut own7, 7),
         slices::part_mut(words, &mut own8, 8),
+        slices::marks_mut(words, &mut own9, 9),
     );
     slices::tell(words, held, 1);
     slices::tell(words, held, 2);
@@ -431,17 +461,10 @@ fn list_scaling(c: Case, row: &[[usize; 3]], words: &[u64], held: &[f64]) {
     slices::told(words, own6, 6);
     slices::told(words, own7, 7);
     slices::told(words, own8, 8);
+    slices::told_marks(words, own9, 9);
 }
 
 // ---- each by what it writes
-
-fn offsets(c: Case, words: &[u64], held: &[f64]) {
-    if c.call == 0x10a {
-        second_order_offset(words, held);
-    } else {
-        list_offset(c, words, held);
-    }
-}
 
 fn writes_three(c: Case, words: &[u64], held: &[f64]) {
     let call = c.call;
@@ -470,6 +493,7 @@ fn writes_none(c: Case, row: &[[usize; 3]], words: &[u64], held: &[f64]) {
         0 => case_answers::value(number(c)),
         1 => reads_one(c, x),
         2 => reads_two(c, x, y, slices::number(words, held, 2)),
+        3 => list_square(c, words, held),
         _ => reads_four(c, row, words, held),
     }
 }
@@ -478,8 +502,10 @@ fn run(c: Case, row: &[[usize; 3]], words: &[u64], held: &[f64]) {
     let written = c.written;
     match written {
         0 => writes_none(c, row, words, held),
-        1 => if c.slices == 6 {
-            offsets(c, words, held)
+        1 => if c.marked {
+            list_writes_one(c, words, held)
+        } else if c.slices == 6 {
+            second_order_offset(words, held)
         } else {
             writes_one(c, words, held)
         },
@@ -493,6 +519,16 @@ fn run(c: Case, row: &[[usize; 3]], words: &[u64], held: &[f64]) {
     }
 }
 
+// The slices behind the first `told` ones, as they were read.
+fn tell_rest(words: &[u64], held: &[f64], told: usize, slices: usize, marked: bool) {
+    if !marked {
+        slices::tell_behind(words, held, told, slices);
+    } else if told < slices {
+        slices::tell_behind(words, held, told, slices - 1);
+        slices::told_marks(words, slices::all_marks(words), slices);
+    }
+}
+
 // A case run, and told in one line: the slices that the call only reads are told as they were read.
 pub fn made(c: Case, row: &[[usize; 3]], words: &[u64]) {
     let held = slices::numbers(words);
@@ -503,6 +539,6 @@ pub fn made(c: Case, row: &[[usize; 3]], words: &[u64]) {
     } else {
         c.written
     };
-    slices::tell_behind(words, &held, told, c.slices);
+    tell_rest(words, &held, told, c.slices, c.marked);
     show::newline();
 }

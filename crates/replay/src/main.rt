@@ -42,7 +42,7 @@ fn damaged(number: u64, fault: u8) {
 // ---- a case
 
 // Of each operation, by its number in docs/CASES.md: how many slices a call takes, how many of them it writes, and how many numbers are lent
-// to it, which are slices of one entry, the last ones; a digit each. 0xf00: there is no such call.
+// to it, which are slices of one entry, the last ones; a digit each. A 1 before them: the last slice is the marks. 0xf00: there is no such call.
 const SECOND_ORDER: [usize; 22] = [
     0x100, // margins
     0x110, // scaled_unit_shift
@@ -97,23 +97,23 @@ const OF_LIST: [usize; 22] = [
     0x100, // margins
     0x110, // scaled_unit_shift
     0x220, // unit_initialization
-    0x550, // set_identity_scaling
-    0x860, // update_scaling
-    0x410, // get_hs
-    0x200, // square_hs
-    0x410, // mul_hs
-    0x210, // affine_ds
-    0x530, // combined_ds_shift
-    0x610, // ds_from_dz_offset
+    0x1660, // set_identity_scaling
+    0x1970, // update_scaling
+    0x1510, // get_hs
+    0x1300, // square_hs
+    0x1510, // mul_hs
+    0x1310, // affine_ds
+    0x1630, // combined_ds_shift
+    0x1710, // ds_from_dz_offset
     0x400, // step_length
-    0x410, // mul_w
-    0x410, // mul_winv
+    0x1510, // mul_w
+    0x1510, // mul_winv
     0x310, // circ_op
     0x310, // inv_circ_op
-    0x310, // lambda_inv_circ_op
+    0x1410, // lambda_inv_circ_op
     0x100, // standing
     0x400, // the whole list's step_length
-    0x860, // the whole list's update_scaling
+    0x1970, // the whole list's update_scaling
     0xf00, // residual_shifted
     0xf00, // sqrt_residual
 ];
@@ -180,7 +180,7 @@ fn case(words: &[u64]) -> u8 {
     let row = &held[..n];
     let at = cut.at;
     let own = &behind[at..];
-    let slices = shape / 256;
+    let slices = shape / 256 % 16;
     let fault = wrong(own, slices, shape % 16);
     if fault != 0 {
         return fault;
@@ -192,6 +192,7 @@ fn case(words: &[u64]) -> u8 {
         place: records::place_of(row, words[3] as usize),
         slices,
         written: shape / 16 % 16,
+        marked: shape / 4096 == 1,
     };
     calls::made(c, row, own);
     0

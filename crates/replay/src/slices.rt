@@ -66,3 +66,47 @@ pub fn tell_behind(words: &[u64], held: &[f64], k: usize, slices: usize) {
         tell(words, held, i);
     }
 }
+
+// ---- the slice of the marks, likewise: a mark is its word's last byte
+
+pub fn all_marks(words: &[u64]) -> [u8; 1400]
+    ensures { λ r. ⌜ 1400 ≡ length r ⌝ }
+{
+    let mut held = [0; 1400];
+    if words.len() <= 1400 {
+        case_words::marks(words, &mut held);
+    }
+    held
+}
+
+pub fn marks<'a>(words: &[u64], held: &'a [u8], k: usize) -> &'a [u8] {
+    let cut = case_words::nth(words, k);
+    let end = cut.at;
+    if held.len() < end {
+        return &held[..0];
+    }
+    if end < cut.length {
+        return &held[..0];
+    }
+    let from = end - cut.length;
+    &held[from..end]
+}
+
+pub fn marks_mut<'a>(words: &[u64], held: &'a mut [u8], k: usize) -> &'a mut [u8] {
+    let cut = case_words::nth(words, k);
+    let end = cut.at;
+    if held.len() < end {
+        return &mut held[..0];
+    }
+    if end < cut.length {
+        return &mut held[..0];
+    }
+    let from = end - cut.length;
+    &mut held[from..end]
+}
+
+pub fn told_marks(words: &[u64], own: [u8; 1400], k: usize)
+    requires { ⌜ 1400 ≡ length own ⌝ }
+{
+    case_answers::marks(marks(words, &own, k));
+}

@@ -79,14 +79,24 @@ fn line(call: &[u8], k: usize, a: Answer, x: &[f64]) {
     show::newline();
 }
 
-// Five buffers, and the line's end.
+// The three cones' marks, and the line's end.
+fn marked(marks: [u8; 3]) {
+    show::text(b" | ");
+    show::decimal(marks[0] as u64);
+    show::text(b" ");
+    show::decimal(marks[1] as u64);
+    show::text(b" ");
+    show::decimal(marks[2] as u64);
+    show::newline();
+}
+
+// Five buffers.
 fn five(a: &[f64], b: &[f64], c: &[f64], d: &[f64], e: &[f64]) {
     holds(a);
     holds(b);
     holds(c);
     holds(d);
     holds(e);
-    show::newline();
 }
 
 fn holds_row(r: Row) {
@@ -161,6 +171,7 @@ fn set_identity_scaling() {
     let mut v = second_ten();
     let mut eta = [3.0; 3];
     let mut d = [4.0; 3];
+    let mut marks = [0; 3];
     let a = local_calls::set_identity_scaling(
         row(),
         3,
@@ -170,9 +181,11 @@ fn set_identity_scaling() {
         &mut v,
         &mut eta,
         &mut d,
+        &mut marks,
     );
     say(b"set_identity_scaling", 2, a);
     five(&w, &u, &v, &eta, &d);
+    marked(marks);
 }
 
 fn update_scaling(first: &[f64], second: &[f64]) {
@@ -182,6 +195,7 @@ fn update_scaling(first: &[f64], second: &[f64]) {
     let mut v = second_ten();
     let mut eta = [3.0; 3];
     let mut d = [4.0; 3];
+    let mut marks = [0; 3];
     let a = local_calls::update_scaling(
         row(),
         3,
@@ -194,21 +208,23 @@ fn update_scaling(first: &[f64], second: &[f64]) {
         &mut v,
         &mut eta,
         &mut d,
+        &mut marks,
     );
     say_scaling(b"update_scaling", 2, a);
     holds(&w);
     five(&lambda, &u, &v, &eta, &d);
+    marked(marks);
 }
 
 fn get_hs(scale: &[f64]) {
     let mut hs = [7.0; 13];
-    let a = local_calls::get_hs(row(), 3, 1, &mut hs, scale, &[2.0; 3], &[0.5; 3]);
+    let a = local_calls::get_hs(row(), 3, 1, &mut hs, scale, &[2.0; 3], &[0.5; 3], &[1; 3]);
     line(b"get_hs", 1, a, &hs);
 }
 
 fn square_hs(scale: &[f64]) {
     begin(b"square_hs", 1);
-    let got = local_calls::square_hs(row(), 3, 1, scale, &[2.0; 3]);
+    let got = local_calls::square_hs(row(), 3, 1, scale, &[2.0; 3], &[1; 3]);
     show::decimal(got.no as u64);
     let rows = got.rows;
     holds_row(rows[0]);
@@ -220,19 +236,41 @@ fn square_hs(scale: &[f64]) {
 
 fn mul_w(second: &[f64], scale: &[f64]) {
     let mut y = first_ten();
-    let a = local_calls::mul_w(row(), 3, 2, &mut y, second, 2.0, 3.0, scale, &[2.0; 3]);
+    let a = local_calls::mul_w(
+        row(),
+        3,
+        2,
+        &mut y,
+        second,
+        2.0,
+        3.0,
+        scale,
+        &[2.0; 3],
+        &[1; 3],
+    );
     line(b"mul_w", 2, a, &y);
 }
 
 fn mul_winv(second: &[f64], scale: &[f64]) {
     let mut y = first_ten();
-    let a = local_calls::mul_winv(row(), 3, 1, &mut y, second, 2.0, 3.0, scale, &[2.0; 3]);
+    let a = local_calls::mul_winv(
+        row(),
+        3,
+        1,
+        &mut y,
+        second,
+        2.0,
+        3.0,
+        scale,
+        &[2.0; 3],
+        &[1; 3],
+    );
     line(b"mul_winv", 1, a, &y);
 }
 
 fn mul_hs(second: &[f64], scale: &[f64]) {
     let mut y = point_ten();
-    let a = local_calls::mul_hs(row(), 3, 0, &mut y, second, scale, &[2.0; 3]);
+    let a = local_calls::mul_hs(row(), 3, 0, &mut y, second, scale, &[2.0; 3], &[1; 3]);
     line(b"mul_hs", 0, a, &y);
 }
 
@@ -244,7 +282,7 @@ fn circ_op(first: &[f64], second: &[f64]) {
 
 fn affine_ds(point: &[f64]) {
     let mut ds = first_ten();
-    let a = local_calls::affine_ds(row(), 3, 2, &mut ds, point);
+    let a = local_calls::affine_ds(row(), 3, 2, &mut ds, point, &[2; 3]);
     line(b"affine_ds", 2, a, &ds);
 }
 
@@ -256,7 +294,7 @@ fn inv_circ_op(first: &[f64], second: &[f64]) {
 
 fn lambda_inv_circ_op(second: &[f64], point: &[f64]) {
     let mut x = first_ten();
-    let a = local_calls::lambda_inv_circ_op(row(), 3, 1, &mut x, second, point);
+    let a = local_calls::lambda_inv_circ_op(row(), 3, 1, &mut x, second, point, &[2; 3]);
     line(b"lambda_inv_circ_op", 1, a, &x);
 }
 
@@ -272,6 +310,7 @@ fn ds_from_dz_offset(first: &[f64], second: &[f64], scale: &[f64], point: &[f64]
         scale,
         point,
         &[2.0; 3],
+        &[2; 3],
     );
     line(b"ds_from_dz_offset", 1, a, &out);
 }
@@ -290,6 +329,7 @@ fn combined_ds_shift(scale: &[f64]) {
         0.5,
         scale,
         &[2.0; 3],
+        &[1; 3],
     );
     say(b"combined_ds_shift", 2, a);
     holds(&shift);

@@ -1,6 +1,6 @@
 // Rows of cones that the program makes itself, and what calls on them come to: where a row is taken and where it is refused, each buffer one
-// number too short and too long, the limits of a step, the square block, and the step and the scaling over a whole list (document 01, "Refusal
-// numbers"; document 02, item 1). Of our own; nothing is ported.
+// number too short and too long, the limits of a step, the square block, the step and the scaling over a whole list, and which marks refuse which calls
+// (document 01, "Refusal numbers"; document 02, items 1 and 4). Of our own; nothing is ported.
 use answers::Answer;
 use answers::Margins;
 use answers::Scaling;
@@ -12,11 +12,15 @@ ghost use Prim.Native.Nat.{_≤_, _+_};
 
 // ---- how an answer is written
 
-fn say(a: Answer) {
+fn told(a: Answer) {
     match a {
         Answer::Done => show::text(b"done"),
         Answer::Refused(no) => show::refused(no),
     }
+}
+
+fn say(a: Answer) {
+    told(a);
     show::newline();
 }
 
@@ -200,7 +204,7 @@ fn long(meant: usize, at: usize, n: usize, more: usize) -> usize
     if meant == at { n - 1 + more } else { n }
 }
 
-// Scaling of cone 1 of three, ten entries in all; `meant` counts s, z, w, lambda, u, v, eta, d.
+// Scaling of cone 1 of three, ten entries in all; `meant` counts s, z, w, lambda, u, v, eta, d, marks.
 fn scale(of: &[u8], meant: usize, more: usize)
     requires { ⌜ more ≤ 2 ⌝ }
 {
@@ -213,6 +217,7 @@ fn scale(of: &[u8], meant: usize, more: usize)
     let mut v = [0.0; 11];
     let mut eta = [0.0; 4];
     let mut d = [0.0; 4];
+    let mut marks = [0; 4];
     let in_s = long(meant, 0, 10, more);
     let in_z = long(meant, 1, 10, more);
     let in_w = long(meant, 2, 10, more);
@@ -221,6 +226,7 @@ fn scale(of: &[u8], meant: usize, more: usize)
     let in_v = long(meant, 5, 10, more);
     let in_eta = long(meant, 6, 3, more);
     let in_d = long(meant, 7, 3, more);
+    let in_marks = long(meant, 8, 3, more);
     say_scaling(list_scaling::update_scaling_at(
         local_rows::place_in(ten(), 3, 1),
         &s[..in_s],
@@ -231,6 +237,7 @@ fn scale(of: &[u8], meant: usize, more: usize)
         &mut v[..in_v],
         &mut eta[..in_eta],
         &mut d[..in_d],
+        &mut marks[..in_marks],
     ));
 }
 
@@ -254,11 +261,13 @@ fn more_scalings() {
     scale(b"scaling, eta one long", 6, 2);
     scale(b"scaling, d one short", 7, 0);
     scale(b"scaling, d one long", 7, 2);
-    scale(b"scaling, all of their lengths", 8, 0);
+    scale(b"scaling, marks one short", 8, 0);
+    scale(b"scaling, marks one long", 8, 2);
+    scale(b"scaling, all of their lengths", 9, 0);
 }
 
 // The blocks of the same three cones have 2 + 6 + 5 numbers.
-fn block(of: &[u8], more: usize)
+fn block(of: &[u8], more: usize, mark: u8)
     requires { ⌜ more ≤ 2 ⌝ }
 {
     show::label(of);
@@ -270,21 +279,28 @@ fn block(of: &[u8], more: usize)
         &[1.0; 10],
         &[1.0; 3],
         &[1.0; 3],
+        &[mark; 3],
     ));
 }
 
 fn blocks() {
-    block(b"blocks, hs one short", 0);
-    block(b"blocks, hs of its length", 1);
-    block(b"blocks, hs one long", 2);
+    block(b"blocks, hs one short", 0, 1);
+    block(b"blocks, hs of its length", 1, 1);
+    block(b"blocks, hs one long", 2, 1);
+    block(b"blocks, hs one short, a fresh cone", 0, 0);
 }
 
 // ---- the square block
 
-fn square(of: &[u8], k: usize) {
+fn square(of: &[u8], k: usize, mark: u8) {
     show::label(of);
     let list = three(nonnegative(0, 2), second_order(2, 4), second_order(6, 5));
-    let got = list_square::square_hs_at(local_rows::place_in(list, 3, k), &[2.0; 11], &[1.0; 3]);
+    let got = list_square::square_hs_at(
+        local_rows::place_in(list, 3, k),
+        &[2.0; 11],
+        &[1.0; 3],
+        &[mark; 3],
+    );
     show::decimal(got.no as u64);
     show::text(b" ");
     let rows = got.rows;
@@ -299,9 +315,11 @@ fn square(of: &[u8], k: usize) {
 }
 
 fn squares() {
-    square(b"square block, nonnegative", 0);
-    square(b"square block, dimension 4", 1);
-    square(b"square block, dimension 5", 2);
+    square(b"square block, nonnegative", 0, 1);
+    square(b"square block, dimension 4", 1, 1);
+    square(b"square block, dimension 5", 2, 1);
+    square(b"square block, dimension 4, a fresh cone", 1, 0);
+    square(b"square block, dimension 5, a fresh cone", 2, 0);
 }
 
 // ---- steps, of one cone and of the list
@@ -351,7 +369,18 @@ fn nothing() {
 
 // ---- the scaling of the whole list
 
-// Behind the answer, of the first three cones, what eta and the first entries of w hold: 9 and 7 where they are not written.
+// Three marks, and the line's end.
+fn said(marks: [u8; 3]) {
+    show::text(b" | ");
+    show::decimal(marks[0] as u64);
+    show::text(b" ");
+    show::decimal(marks[1] as u64);
+    show::text(b" ");
+    show::decimal(marks[2] as u64);
+    show::newline();
+}
+
+// Behind the answer, of the first three cones, what eta, the first entries of w and the marks hold: 9, 7 and 0, 1, 3 where they are not written.
 fn scaled(of: &[u8], list: [Cone; 257], cones: usize, s: [f64; 6], z: [f64; 6]) {
     show::label(of);
     let mut w = [7.0; 6];
@@ -360,6 +389,7 @@ fn scaled(of: &[u8], list: [Cone; 257], cones: usize, s: [f64; 6], z: [f64; 6]) 
     let mut v = [7.0; 6];
     let mut eta = [9.0; 3];
     let mut d = [9.0; 3];
+    let mut marks = [0, 1, 3];
     say_scalings(local_rows::list_scaling_in(
         list,
         cones,
@@ -371,6 +401,7 @@ fn scaled(of: &[u8], list: [Cone; 257], cones: usize, s: [f64; 6], z: [f64; 6]) 
         &mut v,
         &mut eta,
         &mut d,
+        &mut marks,
     ));
     show::text(b" | ");
     show::number(eta[0]);
@@ -384,14 +415,14 @@ fn scaled(of: &[u8], list: [Cone; 257], cones: usize, s: [f64; 6], z: [f64; 6]) 
     show::number(w[2]);
     show::text(b" ");
     show::number(w[4]);
-    show::newline();
+    said(marks);
 }
 
 fn pairs() -> [Cone; 257] {
     three(second_order(0, 2), second_order(2, 2), second_order(4, 2))
 }
 
-// (5, 3) lies inside; s (1, 1) gives an early false, s (2, 0) with z (-2, 0) a late one, which writes eta and w.
+// (5, 3) lies inside; s (1, 1) gives an early false, s (2, 0) with z (-2, 0) a late one; neither writes.
 fn scaled_lines() {
     let inside = [5.0, 3.0, 5.0, 3.0, 5.0, 3.0];
     let early = [5.0, 3.0, 1.0, 1.0, 5.0, 3.0];
@@ -450,6 +481,7 @@ fn scaled_nothing(of: &[u8], s: &[f64]) {
     let mut v: [f64; 0] = [];
     let mut eta: [f64; 0] = [];
     let mut d: [f64; 0] = [];
+    let mut marks: [u8; 0] = [];
     say_scalings(local_rows::list_scaling_in(
         empty(),
         0,
@@ -461,8 +493,46 @@ fn scaled_nothing(of: &[u8], s: &[f64]) {
         &mut v,
         &mut eta,
         &mut d,
+        &mut marks,
     ));
     show::newline();
+}
+
+// ---- marks: 0 is fresh, 1 identity, 2 scaled, and any other counts as fresh
+
+// Of ten entries in all: the product of a second-order cone, its affine_ds and its offset, and a nonnegative cone's offset.
+fn reads(of: &[u8], mark: u8) {
+    show::label(of);
+    let x = [5.0; 10];
+    let eta = [1.0; 3];
+    let marks = [mark; 3];
+    let mut y = [0.0; 10];
+    let p = local_rows::place_in(ten(), 3, 1);
+    told(list_mul_hs::mul_hs_at(p, &mut y, &x, &x, &eta, &marks));
+    show::text(b" | ");
+    told(list_jordan::affine_ds_at(p, &mut y, &x, &marks));
+    show::text(b" | ");
+    told(list_shifts::ds_from_dz_offset_at(p, &mut y, &x, &x, &x, &x, &eta, &marks));
+    show::text(b" | ");
+    let q = local_rows::place_in(ten(), 3, 0);
+    say(list_shifts::ds_from_dz_offset_at(q, &mut y, &x, &x, &x, &x, &eta, &marks));
+}
+
+fn marked() {
+    reads(b"a fresh cone", 0);
+    reads(b"an identity cone", 1);
+    reads(b"a scaled cone", 2);
+    reads(b"mark 3", 3);
+    reads(b"mark 255", 255);
+}
+
+// A nonnegative cone's offset reads no mark, but the marks' length is tested.
+fn short_marks() {
+    show::label(b"nonnegative offset, marks one short");
+    let x = [5.0; 10];
+    let mut y = [0.0; 10];
+    let p = local_rows::place_in(ten(), 3, 0);
+    say(list_shifts::ds_from_dz_offset_at(p, &mut y, &x, &x, &x, &x, &[1.0; 3], &[2; 2]));
 }
 
 fn main() {
@@ -483,4 +553,6 @@ fn main() {
     let none: [f64; 0] = [];
     scaled_nothing(b"list scaling of no cones", &none);
     scaled_nothing(b"list scaling of no cones, s one long", &[1.0]);
+    marked();
+    short_marks();
 }

@@ -10,7 +10,7 @@ use lib.Dec.{ltb}
 use lib.ListN.{length, take, drop, take-append-drop, drop-of-length-le}
 use lib.Seq.{ext-getD, take-add}
 use Rattle.answers.specs.Refusal.{Unlike}
-use Rattle.answers.specs.Outcome.{refuses, Call, Gives}
+use Rattle.answers.specs.Outcome.{gives, refuses, Outcome, Call, Gives}
 use Rattle.answers.proofs.Laws.{clear-both, and-more}
 use Rattle.conelist.specs.declared.Kind.{Kind}
 use Rattle.conelist.specs.declared.Cone.{Cone}
@@ -21,7 +21,7 @@ use Rattle.conelist.proofs.Placed.{clear-carried, clear-spot, open-at}
 use Rattle.conecalls.specs.Deed.{Blank, Buffer, per-entry, per-cone, per-block, Whole, Range, Tuple, Numbers, Lengths, Tests, Wide, Own, Back, Owns, Backs, Deed, Ruled, Later, Refused, Fitting, Fitted, Keeps}
 use Rattle.conecalls.proofs.Own.{Long, Start, Fills, own-fits, length-back, own-back, own-apart, clear-first, fits-first, comes-refused}
 use Rattle.sequences.specs.Rearranged.{Naming, Rearranged}
-use Rattle.sequences.specs.Local.{Name, called, Form, Store, Fetch, same-name, Pick, Task, ComesTo, Answer, After, RunAll}
+use Rattle.sequences.specs.Local.{Name, called, Form, Store, Fetch, same-name, Pick, Outside, Task, ComesTo, Answer, After, RunAll}
 use Rattle.sequences.proofs.Rearrange.{Separate, rearranged}
 
 -- ---- several buffers
@@ -56,11 +56,6 @@ module _ (p : Place) (σ τ : Store) (a : Name) (P : Full a → Full a → Type 
       go (yes e) rest = moved e (news .0) (c .0) (f .0)
       go (no n) rest = rest
 
--- a is none of these
-abbrev pub Outside : Name → (bs : List Buffer) → Numbers bs → Type 0
-Outside a [] ns = Unit {0}
-Outside a (b ∷ bs) ns = ¬ (a ≡ called b (ns .0)) × Outside a bs (ns .1)
-
 -- τ's contents put into σ, where they differ in none but these
 pub picked-all : (σ τ : Store) (a : Name) (bs : List Buffer) (ns : Numbers bs) → (Outside a bs ns → σ a ≡ τ a) → Pick a bs ns (Fetch τ bs ns) (σ a) ≡ τ a
 picked-all σ τ a [] ns h = h tt
@@ -73,6 +68,20 @@ picked-all σ τ a (b ∷ bs) ns h = go (same-name a (called b (ns .0))) (picked
 
 unpicked : (σ : Store) (a : Name) (bs : List Buffer) (ns : Numbers bs) → Pick a bs ns (Fetch σ bs ns) (σ a) ≡ σ a
 unpicked σ a bs ns = picked-all σ σ a bs ns (λ o. refl)
+
+-- a buffer that is not written
+pub outside : (a : Name) (bs : List Buffer) (ns : Numbers bs) (news : Tuple Whole bs) (old : Full a) → Outside a bs ns → Pick a bs ns news old ≡ old
+outside a [] ns news old o = refl
+outside a (b ∷ bs) ns news old o = go (same-name a (called b (ns .0))) (outside a bs (ns .1) (news .1) old (o .1))
+  where
+    go : (t : Dec (a ≡ called b (ns .0))) → Pick a bs (ns .1) (news .1) old ≡ old
+        → _≡_ {A = Full a} (elim t [ yes e ↦ subst⁻¹ Full e (news .0) | no n ↦ Pick a bs (ns .1) (news .1) old ]) old
+    go (yes e) rest = absurd (o .0 e)
+    go (no n) rest = rest
+
+-- a call that leaves what it was lent leaves all
+pub left-all : (p : Place) (t : Task) (σ : Store) → ComesTo p t σ .holds ≡ Fetch σ (t .deed .writes) (t .writes) → After p t σ ≡ σ
+left-all p t σ e = fun-ext (λ a. ap (λ ys. Pick a (t .deed .writes) (t .writes) ys (σ a)) e ∙ unpicked σ a (t .deed .writes) (t .writes))
 
 same-ruling : {R B : Type 0} (n : ℕ) (v : R) (old new old′ new′ : B) → Call n v old new .ruling ≡ Call n v old′ new′ .ruling
 unfolding Call
@@ -174,6 +183,16 @@ module _ (list : List Cone) where
     abbrev left : ℕ → Gives (d .Replies) (Tuple Range (d .writes)) → Store → (a : Name) → Full a
     left n g σ a = Pick a (d .writes) (t .writes) (Call n (g .reply) (outs σ) (Backs p (d .writes) (outs σ) (g .news)) .holds) (σ a)
 
+    -- where it is not refused: its cone is in the list, what it is lent for writing has the right lengths, and so have the ranges that its rule gives
+    clear : (σ : Store) → no σ ≡ 0 → (BadPlace list (t .cone) ≡ 0) × Checked p σ (d .writes) (t .writes) × Fitted (p .kind) (d .writes) (does σ .news)
+    clear σ e =
+        let ms : List (ℕ × ℕ) = Tests p (d .writes) (Lengths (d .writes) (outs σ)) in
+        let ns : List (ℕ × ℕ) = Tests p (d .reads) (Lengths (d .reads) (ins σ)) in
+        let five = clear-first (Spot p) (Unlike (AllFit (ms ++ ns))) (d .early (p .kind)) (Later d (p .kind) (Owns p (d .writes) (outs σ)) (Owns p (d .reads) (ins σ))) e in
+        let none = clear-spot p (clear-both (Spot p) (Unlike (AllFit (ms ++ ns))) five .0) .0 in
+        let fits = fits-first ms ns (open-at p (ms ++ ns) 0 (sym five) refl .same) in
+        (none, fits .0, keeps (p .kind) (listing.listed list (t .cone) none .enough) _ (fitted σ none (d .writes) (t .writes) (fits .0)) _ (fitted σ none (d .reads) (t .reads) (fits .1)))
+
     settled : (σ τ : Store) (a : Name) (P : Full a → Full a → Type 0) → P (σ a) (τ a)
         → ((new : Range (Form a)) → Fills p (Form a) (σ a) new → P (Back p (Form a) (σ a) new) (Back p (Form a) (τ a) new))
         → P (After p t σ a) (left (no σ) (does σ) τ a)
@@ -182,16 +201,22 @@ module _ (list : List Cone) where
       where
         go : (n : ℕ) → no σ ≡ n → P (left n (does σ) σ a) (left n (does σ) τ a)
         go zero e =
-            let ms : List (ℕ × ℕ) = Tests p (d .writes) (Lengths (d .writes) (outs σ)) in
-            let ns : List (ℕ × ℕ) = Tests p (d .reads) (Lengths (d .reads) (ins σ)) in
-            let five = clear-first (Spot p) (Unlike (AllFit (ms ++ ns))) (d .early (p .kind)) (Later d (p .kind) (Owns p (d .writes) (outs σ)) (Owns p (d .reads) (ins σ))) e in
-            let none = clear-spot p (clear-both (Spot p) (Unlike (AllFit (ms ++ ns))) five .0) .0 in
-            let fits = fits-first ms ns (open-at p (ms ++ ns) 0 (sym five) refl .same) in
+            let c = clear σ e in
             picked p σ τ a P kept
-            (λ new full long. replaced new (record { full = full; inside = inside (t .cone) (Form a) (σ a) none full; long = long }))
-            (d .writes) (t .writes) (does σ .news) (fits .0)
-            (keeps (p .kind) (listing.listed list (t .cone) none .enough) _ (fitted σ none (d .writes) (t .writes) (fits .0)) _ (fitted σ none (d .reads) (t .reads) (fits .1)))
+            (λ new full long. replaced new (record { full = full; inside = inside (t .cone) (Form a) (σ a) (c .0) full; long = long }))
+            (d .writes) (t .writes) (does σ .news) (c .1) (c .2)
         go (suc n) e = subst₂ P (sym (unpicked σ a (d .writes) (t .writes))) (sym (unpicked τ a (d .writes) (t .writes))) kept
+
+    -- the ranges that its rule gives are then there
+    there : (σ : Store) → no σ ≡ 0 → Owns p (d .writes) (Backs p (d .writes) (outs σ) (does σ .news)) ≡ does σ .news
+    there σ e = let c = clear σ e in go (c .0) (d .writes) (t .writes) (does σ .news) (c .1) (c .2)
+      where
+        go : BadPlace list (t .cone) ≡ 0 → (bs : List Buffer) (ns : Numbers bs) (news : Tuple Range bs) → Checked p σ bs ns → Fitted (p .kind) bs news
+            → Owns p bs (Backs p bs (Fetch σ bs ns) news) ≡ news
+        go z [] ns news c f = refl
+        go z (b ∷ bs) ns news c f =
+            let y : Whole b = σ (called b (ns .0)) in
+            and-more (own-back p b y (news .0) (record { full = c .0; inside = inside (t .cone) b y z (c .0); long = f .0 })) (go z bs (ns .1) (news .1) (c .1) (f .1))
 
     -- a call changes nothing that another cone sees
     others : (σ : Store) (j : ℕ) → ¬ (t .cone ≡ j) → view j (After p t σ) ≡ view j σ
@@ -239,7 +264,40 @@ refused : (p : Place) (t : Task) (σ : Store) (n : ℕ) → Carried p ≡ suc n 
 refused p t σ n e =
     let d : Deed = t .deed in
     let comes : ComesTo p t σ ≡ record { ruling = refuses (suc n); holds = Fetch σ (d .writes) (t .writes) } = comes-refused p d (Fetch σ (d .writes) (t .writes)) (Fetch σ (d .reads) (t .reads)) n e in
-    (ap (λ o. o .ruling) comes, fun-ext (λ a. ap (λ o. Pick a (d .writes) (t .writes) (o .holds) (σ a)) comes ∙ unpicked σ a (d .writes) (t .writes)))
+    (ap (λ o. o .ruling) comes, left-all p t σ (ap (λ o. o .holds) comes))
+
+-- ---- how a call on a cone of a list ends: it is refused and leaves all, or its rule's answer is given and the ranges that it gives are there
+
+module _ (list : List Cone) (t : Task) (keeps : Keeps (t .deed)) (σ : Store) where
+  pub data Ending (p : Place) : Type 0 where
+    refusing : (n : ℕ) → Answer p t σ ≡ refuses n → After p t σ ≡ σ → Ending p
+    giving : Answer p t σ ≡ gives (does list t keeps σ .reply)
+        → ComesTo p t σ .holds ≡ Backs (LaidAt list (t .cone)) (t .deed .writes) (outs list t keeps σ) (does list t keeps σ .news)
+        → Owns (LaidAt list (t .cone)) (t .deed .writes) (ComesTo p t σ .holds) ≡ does list t keeps σ .news
+        → Ending p
+
+  laid : Ending (LaidAt list (t .cone))
+  unfolding Call
+  laid = go (no list t keeps σ) refl
+    where
+      comes : ℕ → Outcome (t .deed .Replies) (Tuple Whole (t .deed .writes))
+      comes n = Call n (does list t keeps σ .reply) (outs list t keeps σ) (Backs (LaidAt list (t .cone)) (t .deed .writes) (outs list t keeps σ) (does list t keeps σ .news))
+
+      go : (n : ℕ) → no list t keeps σ ≡ n → Ending (LaidAt list (t .cone))
+      go zero e =
+          let c : ComesTo (LaidAt list (t .cone)) t σ ≡ comes 0 = ap comes e in
+          let holds = ap (λ o. o .holds) c in
+          giving (ap (λ o. o .ruling) c) holds (ap (Owns (LaidAt list (t .cone)) (t .deed .writes)) holds ∙ there list t keeps σ e)
+      go (suc n) e =
+          let c : ComesTo (LaidAt list (t .cone)) t σ ≡ comes (suc n) = ap comes e in
+          refusing (suc n) (ap (λ o. o .ruling) c) (left-all (LaidAt list (t .cone)) t σ (ap (λ o. o .holds) c))
+
+  pub ending : Ending (PlaceOf list (t .cone))
+  ending = go (Carried (PlaceOf list (t .cone))) refl
+    where
+      go : (n : ℕ) → Carried (PlaceOf list (t .cone)) ≡ n → Ending (PlaceOf list (t .cone))
+      go zero e = subst Ending (sym (listing.found list (t .cone) (clear-carried (PlaceOf list (t .cone)) e))) laid
+      go (suc n) e = let r = refused (PlaceOf list (t .cone)) t σ n e in refusing (suc n) (r .0) (r .1)
 
 -- ---- calls of any sort C, each a deed on one cone of a list
 

@@ -37,6 +37,11 @@ Pick a [] ns news old = old
 Pick a (b ∷ bs) ns news old =
     elim (same-name a (called b (ns .0))) [ yes e ↦ subst⁻¹ (λ c. Whole (Form c)) e (news .0) | no n ↦ Pick a bs (ns .1) (news .1) old ]
 
+-- a is none of these
+abbrev pub Outside : Name → (bs : List Buffer) → Numbers bs → Type 0
+Outside a [] ns = Unit {0}
+Outside a (b ∷ bs) ns = ¬ (a ≡ called b (ns .0)) × Outside a bs (ns .1)
+
 -- ---- a call: the cone that it names, its deed, and the numbers of the buffers that it is lent
 
 pub record Task : Type 1 where

@@ -26,16 +26,17 @@ module _ (s z w lambda u v : List Float) (η d : Float) {ζ σ : Float} (of-z : 
   unfolding UpdateScaling
   early test = rw (← of-z, ← of-s, test)
 
-  module _ (test : (eq ζ 𝟎 || eq σ 𝟎) ≡ false) {η′ ω : Float} {w′ : List Float} (of-η : η′ ≡ Root (σ ⊘ ζ)) (of-w : w′ ≡ Point s z σ ζ) (of-ω : ω ≡ RootScale w′) where
-    pub late : eq ω 𝟎 ≡ true → record { reply = truth false; news = Stored w′ lambda u v η′ d } ≡ UpdateScaling s z w lambda u v η d
+  module _ (test : (eq ζ 𝟎 || eq σ 𝟎) ≡ false) {ω : Float} (of-ω : ω ≡ RootScale (Point s z σ ζ)) where
+    pub late : eq ω 𝟎 ≡ true → record { reply = truth false; news = Stored w lambda u v η d } ≡ UpdateScaling s z w lambda u v η d
     unfolding UpdateScaling
-    late test′ = rw (← of-z, ← of-s, test, ← of-w, ← of-ω, test′, of-η)
+    late test′ = rw (← of-z, ← of-s, test, ← of-ω, test′)
 
-    pub scaled : {w″ lambda′ u′ v′ : List Float} {d′ : Float} → eq ω 𝟎 ≡ false → w″ ≡ Normed w′ ω → lambda′ ≡ Lambda s z σ ζ ω
-        → u′ ≡ cond (Sparse (length s)) (SparseU w″ u) u → v′ ≡ cond (Sparse (length s)) (SparseV w″ v) v → d′ ≡ cond (Sparse (length s)) (SparseD w″) d
-        → record { reply = truth true; news = Stored w″ lambda′ u′ v′ η′ d′ } ≡ UpdateScaling s z w lambda u v η d
+    pub scaled : {point w′ lambda′ u′ v′ : List Float} {η′ d′ : Float} → eq ω 𝟎 ≡ false
+        → η′ ≡ Root (σ ⊘ ζ) → point ≡ Point s z σ ζ → w′ ≡ Normed point ω → lambda′ ≡ Lambda s z σ ζ ω
+        → u′ ≡ cond (Sparse (length s)) (SparseU w′ u) u → v′ ≡ cond (Sparse (length s)) (SparseV w′ v) v → d′ ≡ cond (Sparse (length s)) (SparseD w′) d
+        → record { reply = truth true; news = Stored w′ lambda′ u′ v′ η′ d′ } ≡ UpdateScaling s z w lambda u v η d
     unfolding UpdateScaling
-    scaled test′ of-w″ of-lambda of-u of-v of-d = rw (← of-z, ← of-s, test, ← of-w, ← of-ω, test′, of-η, of-u, of-v, of-d, of-lambda, of-w″)
+    scaled test′ of-η of-point of-w of-lambda of-u of-v of-d = rw (← of-z, ← of-s, test, ← of-ω, test′, of-η, of-u, of-v, of-d, of-lambda, of-w, of-point)
 
 -- ---- lengths
 
@@ -67,7 +68,7 @@ module _ (n : ℕ) where
         let normed = Normed point (RootScale point) in
         let of-point = length-point n some s z σ ζ of-z in
         let of-normed = length-normed n some point (RootScale point) of-point in
-        simp (sizes-cond, sizes-stored, length-cond, of-w, of-lambda, of-u, of-v, of-point, of-normed, length-lambda n some s z σ ζ (RootScale point) of-s, length-sparse-u n some normed u of-normed, length-sparse-v n some normed v of-normed, cond-same)
+        simp (sizes-cond, sizes-stored, length-cond, of-w, of-lambda, of-u, of-v, of-normed, length-lambda n some s z σ ζ (RootScale point) of-s, length-sparse-u n some normed u of-normed, length-sparse-v n some normed v of-normed, cond-same)
 
     pub lengths-update-scaling : (s z w lambda u v : List Float) (η d : Float) → length s ≡ n → length z ≡ n → length w ≡ n → length lambda ≡ n → length u ≡ n → length v ≡ n
         → Long n 4 2 (UpdateScaling s z w lambda u v η d .news)

@@ -33,7 +33,8 @@ gave t η w lambda = record { ruling = gives (truth t); holds = Stored w lambda 
 lines : List (Line (Came 4 2))
 lines =
     (scale (led 1 (near 5 1) (near 3 1)) (led 1 (near 5 1) (minus 3 1)) ⇒ gave true (near 1 1) (led 1 (near 5 4) (near 3 4)) (led 1 (near 4 1) (near 0 1)))
-    ∷ (scale (led 1 (near 2 1) (near 0 1)) (led 1 (minus 2 1) (near 0 1)) ⇒ gave false (near 1 1) (led 1 (near 0 1) (near 0 1)) (led 1 (near 13 1) (near 14 1)))
+    -- a late false, as document 02, item 4, changes it
+    ∷ (scale (led 1 (near 2 1) (near 0 1)) (led 1 (minus 2 1) (near 0 1)) ⇒ gave false (near 19 1) (led 1 (near 11 1) (near 12 1)) (led 1 (near 13 1) (near 14 1)))
     ∷ (scale (led 1 (minus 2 1) (near 0 1)) (led 1 (minus 2 1) (near 0 1)) ⇒ gave true (near 1 1) (led 1 (near 1 1) (near 0 1)) (led 1 (near 2 1) nan))
     -- an early false, by z and by s
     ∷ (scale (led 1 (near 5 1) (near 3 1)) (led 1 (near 1 1) (near 1 1)) ⇒ gave false (near 19 1) (led 1 (near 11 1) (near 12 1)) (led 1 (near 13 1) (near 14 1)))

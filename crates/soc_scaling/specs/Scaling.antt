@@ -1,4 +1,5 @@
--- Document 01, "Second-order rules": the update of the scaling; source document 000, lines 134 to 211, in order. Assumes nothing.
+-- Document 01, "Second-order rules": the update of the scaling, as document 02, item 4, changes it; source document 000, lines 134 to 211, in
+-- order. Assumes nothing.
 use mathlib.Core.Bool.{true, false, cond, _||_}
 use mathlib.Core.List.{List, [], _∷_}
 use lib.ListN.{length}
@@ -17,11 +18,8 @@ Stored w lambda u v η d = w ⨾ lambda ⨾ u ⨾ v ⨾ η ⨾ d ⨾ tt
 
 -- ---- scaling, with ζ, σ and ω the root scales of z, s and w; w and lambda are of soc_terms, the sparse terms of soc_sparse
 
--- A late false, where the root scale of w is zero: η and w are written, the rest is kept.
-abbrev pub LateFalse : (w lambda u v : List Float) (η d : Float) (w′ : List Float) (η′ : Float) → Gives Reply (Contents 4 2)
-LateFalse w lambda u v η d w′ η′ = record { reply = truth false; news = Stored w′ lambda u v η′ d }
-
--- the answer with what is then stored. An early false, where the scale of z or s is zero, changes nothing
+-- the answer with what is then stored. An early false, where the scale of z or s is zero, changes nothing; "A late false shall change nothing,
+-- as an early one does" (document 02, item 4): where the scale of w is zero
 unfoldable pub UpdateScaling : (s z w lambda u v : List Float) (η d : Float) → Gives Reply (Contents 4 2)
 UpdateScaling s z w lambda u v η d =
     let ζ = RootScale z in
@@ -31,10 +29,9 @@ UpdateScaling s z w lambda u v η d =
     let η′ = Root (σ ⊘ ζ) in
     let w′ = Normed point ω in
     let sparse = Sparse (length s) in
-    cond (eq ζ 𝟎 || eq σ 𝟎)
-    (record { reply = truth false; news = Stored w lambda u v η d })
-    (cond (eq ω 𝟎)
-    (LateFalse w lambda u v η d point η′)
+    let kept : Gives Reply (Contents 4 2) = record { reply = truth false; news = Stored w lambda u v η d } in
+    cond (eq ζ 𝟎 || eq σ 𝟎) kept
+    (cond (eq ω 𝟎) kept
     (record { reply = truth true; news = Stored w′ (Lambda s z σ ζ ω) (cond sparse (SparseU w′ u) u) (cond sparse (SparseV w′ v) v) η′ (cond sparse (SparseD w′) d) }))
 
 -- ---- the bare calls

@@ -1,5 +1,5 @@
-// The second-order cone's scaling (source document 000, lines 134 to 211): `update_scaling`. The bare call, and behind it the kernel that
-// it calls once nothing is refused.
+// The second-order cone's scaling (source document 000, lines 134 to 211): `update_scaling`, which writes nothing where it answers false
+// (document 02, item 4). The bare call, and behind it the kernel that it calls once nothing is refused.
 use answers::Scaling;
 ghost use mathlib.Core.Path.{_≡_};
 ghost use mathlib.Core.List.{[], _∷_};
@@ -32,12 +32,12 @@ pub fn update_scaling(
     if (zscale == 0.0) | (sscale == 0.0) {
         return false;
     }
-    *eta = root::sqrt(sscale / zscale);
-    soc_terms::point(w, s, z, sscale, zscale);
-    let wscale = soc_residual::sqrt_residual(w);
+    let wscale = soc_terms::point_scale(s, z, sscale, zscale);
     if wscale == 0.0 {
         return false;
     }
+    *eta = root::sqrt(sscale / zscale);
+    soc_terms::point(w, s, z, sscale, zscale);
     let w1sq = soc_terms::normalize(w, wscale);
     soc_terms::scaling_point(lambda, s, z, sscale, zscale, wscale);
     soc_sparse::expand(4 < s.len(), w, w1sq, u, v, d);

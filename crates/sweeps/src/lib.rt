@@ -34,12 +34,13 @@ pub extern "C" fn measured_mul_w_at(
     beta: f64,
     w: &[f64],
     eta: &[f64],
+    marks: &[u8],
 ) -> u8
     ensures { λ r. ⌜ export r [] (now (y .exit) ⨾ tt)
-        ≡ Exported Values [] (At (PlaceBy (now (at .entry))) (MulWDeed alpha beta) (now (y .entry)) (now (x .entry)) (now (w .entry)) (now (eta .entry))) ⌝ }
+        ≡ Exported Values [] (At (PlaceBy (now (at .entry))) (MulWDeed alpha beta) (now (y .entry)) (now (x .entry)) (now (w .entry)) (now (eta .entry)) (now (marks .entry))) ⌝ }
 {
     let p = place(*at);
-    codes::answer(list_products::mul_w_at(p, y, x, alpha, beta, w, eta))
+    codes::answer(list_products::mul_w_at(p, y, x, alpha, beta, w, eta, marks))
 }
 
 #[no_mangle]
@@ -53,14 +54,15 @@ pub extern "C" fn measured_update_scaling_at(
     v: &mut [f64],
     eta: &mut [f64],
     d: &mut [f64],
+    marks: &mut [u8],
     truth: &mut u8,
 ) -> u8
-    ensures { λ r. ⌜ export r (whole (now (truth .exit)) ∷ []) (now (w .exit) ⨾ now (lambda .exit) ⨾ now (u .exit) ⨾ now (v .exit) ⨾ now (eta .exit) ⨾ now (d .exit) ⨾ tt)
-        ≡ Exported Values (whole (now (truth .entry)) ∷ []) (At (PlaceBy (now (at .entry))) UpdateScalingDeed (now (w .entry)) (now (lambda .entry)) (now (u .entry)) (now (v .entry)) (now (eta .entry)) (now (d .entry)) (now (s .entry)) (now (z .entry))) ⌝ }
+    ensures { λ r. ⌜ export r (whole (now (truth .exit)) ∷ []) (now (w .exit) ⨾ now (lambda .exit) ⨾ now (u .exit) ⨾ now (v .exit) ⨾ now (eta .exit) ⨾ now (d .exit) ⨾ now (marks .exit) ⨾ tt)
+        ≡ Exported Values (whole (now (truth .entry)) ∷ []) (At (PlaceBy (now (at .entry))) UpdateScalingDeed (now (w .entry)) (now (lambda .entry)) (now (u .entry)) (now (v .entry)) (now (eta .entry)) (now (d .entry)) (now (marks .entry)) (now (s .entry)) (now (z .entry))) ⌝ }
 {
     let p = place(*at);
     codes::scaling(
-        list_scaling::update_scaling_at(p, s, z, w, lambda, u, v, eta, d),
+        list_scaling::update_scaling_at(p, s, z, w, lambda, u, v, eta, d, marks),
         truth,
     )
 }

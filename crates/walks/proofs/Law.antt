@@ -36,7 +36,7 @@ use denote.Struct.Declared.{Declared, fields, row}
 use denote.Struct.Struct.{Plains as Facts}
 use denote.Struct.Laws as LL
 use denote.Memory.{lone}
-pub use denote.Builtin.{usize, f64}
+pub use denote.Builtin.{usize, u8, f64}
 use denote.RattleType.{RattleType, Denots}
 use denote.Ref.{RefT}
 use denote.Slice.{sliceVal, slice-vals, ShrSlice, MutSlice, Room}

@@ -17,11 +17,11 @@ use Rattle.conelist.specs.declared.Cone.{Cone}
 use Rattle.conelist.specs.declared.Place.{Place}
 use Rattle.conelist.specs.Layout.{Dim, BlockDim, KindAt, Before, Entries, BadRecords, BadList, LaidAt, Alone, Found, PlaceOf, AllFit}
 use Rattle.conecalls.specs.Deed.{Whole, Tuple, Owns, Lengths, Refused, Works, Comes}
-use Rattle.list_scaling.specs.Scaling.{UpdateScalingDeed as D, LengthsAt}
+use Rattle.list_scaling.specs.Scaling.{IsTrue, UpdateScalingDeed as D, LengthsAt}
 use Rattle.walks.specs.Records.{noCone, OverRecords}
 use Rattle.walks.proofs.Indexed.{kind-at}
 use Rattle.whole_scaling.proofs.Laws.{at-true, fits-start, fits-turn}
-use Rattle.whole_scaling.specs.List.{Written, IsTrue, Behind, Singly, Unless, ListUpdateScaling}
+use Rattle.whole_scaling.specs.List.{Written, Behind, Singly, Unless, ListUpdateScaling}
 use Rattle.whole_scaling.specs.declared.Walk.{Walk}
 use Rattle.whole_scaling.specs.Walk.{Underway, With, Started, ScalingOpening, Ahead, Fitting, Past, EndedAt, Passed, ScalingFurther, ScalingClosing, ScalingTurn, AsOutcome, ScalingFrom}
 
@@ -117,15 +117,15 @@ barred cs k n e = ap (λ m. Found m (LaidAt cs k)) (go (cond (ltb 256 (length cs
 some : {A : Type 0} (c : Cone) (cs : List Cone) (x y : A) → cond (eqb (length (c ∷ cs)) 0) x y ≡ y
 some c cs x y = rw (ne-eqb (length (c ∷ cs)) 0 (λ q. omega arith))
 
-module _ (s z w lambda u v η d : List Float) where
+module _ (s z w lambda u v η d : List Float) (marks : List ℕ) where
   abbrev held : Written
-  held = w ⨾ lambda ⨾ u ⨾ v ⨾ η ⨾ d ⨾ tt
+  held = w ⨾ lambda ⨾ u ⨾ v ⨾ η ⨾ d ⨾ marks ⨾ tt
 
   abbrev opening : List Cone → Walk
-  opening cs = ScalingOpening (length cs) (PlaceOf cs 0) s z w lambda u v η d
+  opening cs = ScalingOpening (length cs) (PlaceOf cs 0) s z w lambda u v η d marks
 
   abbrev five : Place → ℕ
-  five p = Unlike (AllFit (LengthsAt p s z w lambda u v η d))
+  five p = Unlike (AllFit (LengthsAt p s z w lambda u v η d marks))
 
   -- the number that the walk begins with, and the refusal's
   abbrev first : List Cone → Place → ℕ
@@ -157,7 +157,7 @@ module _ (s z w lambda u v η d : List Float) where
           ∙ ap (λ k. k ⊳ five (Alone (suc m))) (some c cs 0 (suc m))
           ∙ ap (λ m. m ⊳ five (LaidAt (c ∷ cs) 0)) (sym f) ∙ e
 
-  pub walked : (cs : List Cone) → ScalingFrom cs (PlaceOf cs 0) s z w lambda u v η d ≡ ListUpdateScaling cs s z w lambda u v η d
+  pub walked : (cs : List Cone) → ScalingFrom cs (PlaceOf cs 0) s z w lambda u v η d marks ≡ ListUpdateScaling cs s z w lambda u v η d marks
   unfolding Unless ScalingOpening
   walked cs = go (number cs) refl
     where
@@ -170,24 +170,24 @@ module _ (s z w lambda u v η d : List Float) where
 
 -- ---- what tools/proof takes from here for `scaling_from` and `list_update_scaling`
 
-abbrev pub scaling-from-holds : List Cone → Place → (s z w lambda u v η d : List Float) → ℕ → Underway → Type 0
-scaling-from-holds cs p s z w lambda u v η d i t = Fitting (t .0) s z (t .1) (t .2) (t .3) (t .4) (t .5) (t .6)
+abbrev pub scaling-from-holds : List Cone → Place → (s z w lambda u v η d : List Float) (marks : List ℕ) → ℕ → Underway → Type 0
+scaling-from-holds cs p s z w lambda u v η d marks i t = Fitting (t .0) s z (t .1) (t .2) (t .3) (t .4) (t .5) (t .6) (t .7)
 
-pub scaling-from-start : (cs : List Cone) (p : Place) (s z w lambda u v η d : List Float) → Fitting (ScalingOpening (length cs) p s z w lambda u v η d) s z w lambda u v η d
-scaling-from-start cs p s z w lambda u v η d = fits-start s z (length cs) p w lambda u v η d
+pub scaling-from-start : (cs : List Cone) (p : Place) (s z w lambda u v η d : List Float) (marks : List ℕ) → Fitting (ScalingOpening (length cs) p s z w lambda u v η d marks) s z w lambda u v η d marks
+scaling-from-start cs p s z w lambda u v η d marks = fits-start s z (length cs) p w lambda u v η d marks
 
-pub scaling-from-turn : (cs : List Cone) (p : Place) (s z w lambda u v η d : List Float) (i : ℕ) (t : Underway) → i < length cs → scaling-from-holds cs p s z w lambda u v η d i t → scaling-from-holds cs p s z w lambda u v η d (i + 1) (turn s z t (getD cs i noCone))
-scaling-from-turn cs p s z w lambda u v η d i t l f = fits-turn s z (t .0) (getD cs i noCone) (t .1) (t .2) (t .3) (t .4) (t .5) (t .6) f
+pub scaling-from-turn : (cs : List Cone) (p : Place) (s z w lambda u v η d : List Float) (marks : List ℕ) (i : ℕ) (t : Underway) → i < length cs → scaling-from-holds cs p s z w lambda u v η d marks i t → scaling-from-holds cs p s z w lambda u v η d marks (i + 1) (turn s z t (getD cs i noCone))
+scaling-from-turn cs p s z w lambda u v η d marks i t l f = fits-turn s z (t .0) (getD cs i noCone) (t .1) (t .2) (t .3) (t .4) (t .5) (t .6) (t .7) f
 
-pub scaling-from-asks : (cs : List Cone) (p : Place) (s z w lambda u v η d : List Float) → length cs < 2 ^ 64 → (i : ℕ) (t : Underway) → i < length cs → scaling-from-holds cs p s z w lambda u v η d i t → scaling-from-holds cs p s z w lambda u v η d i t
-scaling-from-asks cs p s z w lambda u v η d few i t l f = f
+pub scaling-from-asks : (cs : List Cone) (p : Place) (s z w lambda u v η d : List Float) (marks : List ℕ) → length cs < 2 ^ 64 → (i : ℕ) (t : Underway) → i < length cs → scaling-from-holds cs p s z w lambda u v η d marks i t → scaling-from-holds cs p s z w lambda u v η d marks i t
+scaling-from-asks cs p s z w lambda u v η d marks few i t l f = f
 
-pub scaling-from-closes : (cs : List Cone) (p : Place) (s z w lambda u v η d : List Float) {ruling : Ruling Scaled}
-    → let all : Underway = OverRecords (turn s z) cs (With (ScalingOpening (length cs) p s z w lambda u v η d) (w ⨾ lambda ⨾ u ⨾ v ⨾ η ⨾ d ⨾ tt)) in
-    ruling ≡ ScalingClosing (all .0) → AsOutcome ruling all ≡ ScalingFrom cs p s z w lambda u v η d
-scaling-from-closes cs p s z w lambda u v η d e =
-    let all : Underway = OverRecords (turn s z) cs (With (ScalingOpening (length cs) p s z w lambda u v η d) (w ⨾ lambda ⨾ u ⨾ v ⨾ η ⨾ d ⨾ tt)) in
+pub scaling-from-closes : (cs : List Cone) (p : Place) (s z w lambda u v η d : List Float) (marks : List ℕ) {ruling : Ruling Scaled}
+    → let all : Underway = OverRecords (turn s z) cs (With (ScalingOpening (length cs) p s z w lambda u v η d marks) (w ⨾ lambda ⨾ u ⨾ v ⨾ η ⨾ d ⨾ marks ⨾ tt)) in
+    ruling ≡ ScalingClosing (all .0) → AsOutcome ruling all ≡ ScalingFrom cs p s z w lambda u v η d marks
+scaling-from-closes cs p s z w lambda u v η d marks e =
+    let all : Underway = OverRecords (turn s z) cs (With (ScalingOpening (length cs) p s z w lambda u v η d marks) (w ⨾ lambda ⨾ u ⨾ v ⨾ η ⨾ d ⨾ marks ⨾ tt)) in
     ap (λ r. AsOutcome r all) e
 
-pub list-update-scaling-closes : (cs : List Cone) (s z w lambda u v η d : List Float) {came : Outcome Scaled Written} → came ≡ ScalingFrom cs (PlaceOf cs 0) s z w lambda u v η d → came ≡ ListUpdateScaling cs s z w lambda u v η d
-list-update-scaling-closes cs s z w lambda u v η d e = e ∙ walked s z w lambda u v η d cs
+pub list-update-scaling-closes : (cs : List Cone) (s z w lambda u v η d : List Float) (marks : List ℕ) {came : Outcome Scaled Written} → came ≡ ScalingFrom cs (PlaceOf cs 0) s z w lambda u v η d marks → came ≡ ListUpdateScaling cs s z w lambda u v η d marks
+list-update-scaling-closes cs s z w lambda u v η d marks e = e ∙ walked s z w lambda u v η d marks cs

@@ -36,37 +36,36 @@ three = at 0 (SecondOrder 2) ∷ at 2 (Nonnegative 1) ∷ at 3 (SecondOrder 2) �
 
 -- what was stored is told from what is written
 abbrev scale : List Cone → (s z : List Float) → Outcome Scaled Written
-scale cs s z = ListUpdateScaling cs s z (replicate 5 (p 11)) (replicate 5 (p 13)) (replicate 5 (p 15)) (replicate 5 (p 17)) (replicate 3 (p 19)) (replicate 3 (p 20))
+scale cs s z = ListUpdateScaling cs s z (replicate 5 (p 11)) (replicate 5 (p 13)) (replicate 5 (p 15)) (replicate 5 (p 17)) (replicate 3 (p 19)) (replicate 3 (p 20)) (0 ∷ 1 ∷ 7 ∷ [])
 
-abbrev came : Ruling Scaled → (w lambda η : List Float) → Outcome Scaled Written
-came ruling w lambda η = record { ruling = ruling; holds = w ⨾ lambda ⨾ replicate 5 (p 15) ⨾ replicate 5 (p 17) ⨾ η ⨾ replicate 3 (p 20) ⨾ tt }
+abbrev came : Ruling Scaled → (w lambda η : List Float) (marks : List ℕ) → Outcome Scaled Written
+came ruling w lambda η marks = record { ruling = ruling; holds = w ⨾ lambda ⨾ replicate 5 (p 15) ⨾ replicate 5 (p 17) ⨾ η ⨾ replicate 3 (p 20) ⨾ marks ⨾ tt }
 
 -- all as it was
 abbrev left : Ruling Scaled → Outcome Scaled Written
-left ruling = came ruling (replicate 5 (p 11)) (replicate 5 (p 13)) (replicate 3 (p 19))
+left ruling = came ruling (replicate 5 (p 11)) (replicate 5 (p 13)) (replicate 3 (p 19)) (0 ∷ 1 ∷ 7 ∷ [])
 
 -- of no cones, s being as long as that
 abbrev none : List Float → Outcome Scaled Written
-none s = ListUpdateScaling [] s [] [] [] [] [] [] []
+none s = ListUpdateScaling [] s [] [] [] [] [] [] [] []
 
 lines : List (Line (Outcome Scaled Written))
 lines =
     -- every cone answers true; a nonnegative one has no η
     (scale three (p 5 ∷ p 3 ∷ p 4 ∷ p 5 ∷ p 3 ∷ []) (p 5 ∷ m 3 ∷ p 1 ∷ p 5 ∷ m 3 ∷ [])
-    ⇒ came (gives all-true) (near 5 4 ∷ near 3 4 ∷ p 2 ∷ near 5 4 ∷ near 3 4 ∷ []) (p 4 ∷ p 0 ∷ p 2 ∷ p 4 ∷ p 0 ∷ []) (p 1 ∷ p 19 ∷ p 1 ∷ []))
-    -- an early false of the last cone: those before it are written, it is not
+    ⇒ came (gives all-true) (near 5 4 ∷ near 3 4 ∷ p 2 ∷ near 5 4 ∷ near 3 4 ∷ []) (p 4 ∷ p 0 ∷ p 2 ∷ p 4 ∷ p 0 ∷ []) (p 1 ∷ p 19 ∷ p 1 ∷ []) (2 ∷ 2 ∷ 2 ∷ []))
+    -- an early false of the last cone: those before it are written and marked, it is not
     ∷ (scale three (p 5 ∷ p 3 ∷ p 4 ∷ p 1 ∷ p 1 ∷ []) (p 5 ∷ m 3 ∷ p 1 ∷ p 5 ∷ m 3 ∷ [])
-    ⇒ came (gives (false-at 2)) (near 5 4 ∷ near 3 4 ∷ p 2 ∷ p 11 ∷ p 11 ∷ []) (p 4 ∷ p 0 ∷ p 2 ∷ p 13 ∷ p 13 ∷ []) (p 1 ∷ p 19 ∷ p 19 ∷ []))
-    -- a late false of the first: its w and η are written, and nothing behind it
-    ∷ (scale three (p 2 ∷ p 0 ∷ p 4 ∷ p 5 ∷ p 3 ∷ []) (m 2 ∷ p 0 ∷ p 1 ∷ p 5 ∷ m 3 ∷ [])
-    ⇒ came (gives (false-at 0)) (p 0 ∷ p 0 ∷ p 11 ∷ p 11 ∷ p 11 ∷ []) (replicate 5 (p 13)) (p 1 ∷ p 19 ∷ p 19 ∷ []))
+    ⇒ came (gives (false-at 2)) (near 5 4 ∷ near 3 4 ∷ p 2 ∷ p 11 ∷ p 11 ∷ []) (p 4 ∷ p 0 ∷ p 2 ∷ p 13 ∷ p 13 ∷ []) (p 1 ∷ p 19 ∷ p 19 ∷ []) (2 ∷ 2 ∷ 7 ∷ []))
+    -- a late false of the first: nothing is written (document 02, item 4)
+    ∷ (scale three (p 2 ∷ p 0 ∷ p 4 ∷ p 5 ∷ p 3 ∷ []) (m 2 ∷ p 0 ∷ p 1 ∷ p 5 ∷ m 3 ∷ []) ⇒ left (gives (false-at 0)))
     -- an empty list answers true
-    ∷ (none [] ⇒ record { ruling = gives all-true; holds = [] ⨾ [] ⨾ [] ⨾ [] ⨾ [] ⨾ [] ⨾ tt })
+    ∷ (none [] ⇒ record { ruling = gives all-true; holds = [] ⨾ [] ⨾ [] ⨾ [] ⨾ [] ⨾ [] ⨾ [] ⨾ tt })
     -- the refusals: of the last record, 1 and 3; then 5, which no cone must meet
     ∷ (scale (at 0 (SecondOrder 2) ∷ at 2 (Nonnegative 2) ∷ at 4 (SecondOrder 1) ∷ []) (replicate 5 (p 1)) (replicate 5 (p 1)) ⇒ left (refuses 1))
     ∷ (scale (at 0 (SecondOrder 2) ∷ at 2 (Nonnegative 1) ∷ at 4 (SecondOrder 2) ∷ []) (replicate 5 (p 1)) (replicate 5 (p 1)) ⇒ left (refuses 3))
     ∷ (scale three (replicate 5 (p 1)) (replicate 4 (p 1)) ⇒ left (refuses 5))
-    ∷ (none (p 1 ∷ []) ⇒ record { ruling = refuses 5; holds = [] ⨾ [] ⨾ [] ⨾ [] ⨾ [] ⨾ [] ⨾ tt })
+    ∷ (none (p 1 ∷ []) ⇒ record { ruling = refuses 5; holds = [] ⨾ [] ⨾ [] ⨾ [] ⨾ [] ⨾ [] ⨾ [] ⨾ tt })
     ∷ []
 
 worked : Right lines

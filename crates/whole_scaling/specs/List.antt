@@ -1,29 +1,20 @@
 -- The scaling of a whole list (document 02, item 1): "one call that goes through the list in order, stops at the first cone that answers false, and
 -- names it". Assumes nothing.
 use Prim.Native.Nat.{ℕ, zero, suc}
-use mathlib.Core.Bool.{Bool, false, cond}
+use mathlib.Core.Bool.{cond}
 use mathlib.Core.List.{List}
 use lib.ListN.{length}
 use lib.Ieee.{Float}
 use Rattle.answers.specs.Refusal.{_⊳_, Unlike}
-use Rattle.answers.specs.Outcome.{Reply, done, margins, truth, number, lengths, stands, Scaled, all-true, false-at, Ruling, gives, refuses, Outcome, _⨾_}
+use Rattle.answers.specs.Outcome.{Reply, Scaled, all-true, false-at, Ruling, gives, refuses, Outcome, _⨾_}
 use Rattle.conelist.specs.declared.Cone.{Cone}
 use Rattle.conelist.specs.Layout.{BadList, LaidAt, PlaceOf, AllFit}
 use Rattle.conecalls.specs.Deed.{Whole, Tuple, Comes}
-use Rattle.list_scaling.specs.Scaling.{UpdateScalingDeed, LengthsAt}
+use Rattle.list_scaling.specs.Scaling.{IsTrue, UpdateScalingDeed, LengthsAt}
 
--- what the buffers lent for writing hold: w, lambda, u, v, η, d
+-- what the buffers lent for writing hold: w, lambda, u, v, η, d and the marks
 abbrev pub Written : Type 0
 Written = Tuple Whole (UpdateScalingDeed .writes)
-
--- a single scaling answers `truth` alone
-abbrev pub IsTrue : Reply → Bool
-IsTrue (truth t) = t
-IsTrue done = false
-IsTrue (margins α β) = false
-IsTrue (number x) = false
-IsTrue (lengths z s) = false
-IsTrue (stands x) = false
 
 -- behind the single call on cone k, by its ruling and what the buffers then hold: a true leads on to `rest`; a false is named, and nothing follows. A
 -- refusal would be handed on, but none is met: `unrefused`, crates/orders/proofs/Scaled
@@ -46,7 +37,7 @@ Unless (suc n) old came = record { ruling = refuses (suc n); holds = old }
 
 -- "Refusals: as for a single scaling, without 4": the list's, then 5, by the lengths that the record asks for, which are the same at every cone. "An
 -- empty list answers true"
-abbrev pub ListUpdateScaling : List Cone → (s z w lambda u v η d : List Float) → Outcome Scaled Written
-ListUpdateScaling cs s z w lambda u v η d =
-    let holds : Written = w ⨾ lambda ⨾ u ⨾ v ⨾ η ⨾ d ⨾ tt in
-    Unless (BadList cs ⊳ Unlike (AllFit (LengthsAt (LaidAt cs 0) s z w lambda u v η d))) holds (Singly cs s z (length cs) 0 holds)
+abbrev pub ListUpdateScaling : List Cone → (s z w lambda u v η d : List Float) (marks : List ℕ) → Outcome Scaled Written
+ListUpdateScaling cs s z w lambda u v η d marks =
+    let holds : Written = w ⨾ lambda ⨾ u ⨾ v ⨾ η ⨾ d ⨾ marks ⨾ tt in
+    Unless (BadList cs ⊳ Unlike (AllFit (LengthsAt (LaidAt cs 0) s z w lambda u v η d marks))) holds (Singly cs s z (length cs) 0 holds)

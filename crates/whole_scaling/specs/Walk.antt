@@ -16,25 +16,25 @@ use Rattle.conelist.specs.declared.Cone.{Cone}
 use Rattle.conelist.specs.declared.Place.{Place}
 use Rattle.conelist.specs.Layout.{Dim, BlockDim, AllFit, Ready, Fits}
 use Rattle.conecalls.specs.Deed.{At}
-use Rattle.list_scaling.specs.Scaling.{UpdateScalingDeed, LengthsAt}
+use Rattle.list_scaling.specs.Scaling.{IsTrue, UpdateScalingDeed, LengthsAt}
 use Rattle.walks.specs.Records.{OverRecords}
-use Rattle.whole_scaling.specs.List.{Written, IsTrue}
+use Rattle.whole_scaling.specs.List.{Written}
 use Rattle.whole_scaling.specs.declared.Walk.{Walk}
 
 -- a walk, and what the buffers lent for writing hold
 abbrev pub Underway : Type 0
-Underway = Walk × List Float × List Float × List Float × List Float × List Float × List Float
+Underway = Walk × List Float × List Float × List Float × List Float × List Float × List Float × List ℕ
 
 abbrev pub With : Walk → Written → Underway
-With walk holds = (walk, holds .0, holds .1 .0, holds .1 .1 .0, holds .1 .1 .1 .0, holds .1 .1 .1 .1 .0, holds .1 .1 .1 .1 .1 .0)
+With walk holds = (walk, holds .0, holds .1 .0, holds .1 .1 .0, holds .1 .1 .1 .0, holds .1 .1 .1 .1 .0, holds .1 .1 .1 .1 .1 .0, holds .1 .1 .1 .1 .1 .1 .0)
 
 -- before the first record, by the refusal's number: p has the list's counts
 abbrev pub Started : ℕ → Place → Walk
 Started n p = record { no = n; ended = not (eqb n 0); index = 0; start = 0; block = 0; entries = p .entries; count = p .count; blocks = p .blocks }
 
 -- of so many records: p is the first cone's place, and 4 where there is none
-unfoldable pub ScalingOpening : ℕ → Place → (s z w lambda u v η d : List Float) → Walk
-ScalingOpening cones p s z w lambda u v η d = Started (cond (eqb cones 0) 0 (p .no) ⊳ Unlike (AllFit (LengthsAt p s z w lambda u v η d))) p
+unfoldable pub ScalingOpening : ℕ → Place → (s z w lambda u v η d : List Float) (marks : List ℕ) → Walk
+ScalingOpening cones p s z w lambda u v η d marks = Started (cond (eqb cones 0) 0 (p .no) ⊳ Unlike (AllFit (LengthsAt p s z w lambda u v η d marks))) p
 
 -- the place of the next cone, which is of that kind
 abbrev pub Ahead : Walk → Kind → Place
@@ -51,8 +51,8 @@ Ahead walk kind =
     }
 
 -- what a walk that goes on has: each buffer's length, as the record asks for it of a cone of any kind
-abbrev pub Fitting : Walk → (s z w lambda u v η d : List Float) → Type 0
-Fitting walk s z w lambda u v η d = walk .ended ≡ false → Fits (LengthsAt (Ahead walk (Nonnegative 0)) s z w lambda u v η d)
+abbrev pub Fitting : Walk → (s z w lambda u v η d : List Float) (marks : List ℕ) → Type 0
+Fitting walk s z w lambda u v η d marks = walk .ended ≡ false → Fits (LengthsAt (Ahead walk (Nonnegative 0)) s z w lambda u v η d marks)
 
 -- where the single call answered at all, the cone lies inside
 abbrev pub Inside : Walk → Kind → Scaling → Type 0
@@ -91,10 +91,10 @@ Passed walk kind (gives reply) = cond (IsTrue reply) (Past walk kind) (EndedAt 0
 Passed walk kind (refuses n) = EndedAt n walk
 
 -- over one record more
-unfoldable pub ScalingFurther : Walk → Cone → (s z w lambda u v η d : List Float) → Underway
-ScalingFurther walk c s z w lambda u v η d =
-    let came : Outcome Reply Written = At (Ahead walk (c .kind)) UpdateScalingDeed w lambda u v η d s z in
-    cond (walk .ended) (With walk (w ⨾ lambda ⨾ u ⨾ v ⨾ η ⨾ d ⨾ tt)) (With (Passed walk (c .kind) (came .ruling)) (came .holds))
+unfoldable pub ScalingFurther : Walk → Cone → (s z w lambda u v η d : List Float) (marks : List ℕ) → Underway
+ScalingFurther walk c s z w lambda u v η d marks =
+    let came : Outcome Reply Written = At (Ahead walk (c .kind)) UpdateScalingDeed w lambda u v η d marks s z in
+    cond (walk .ended) (With walk (w ⨾ lambda ⨾ u ⨾ v ⨾ η ⨾ d ⨾ marks ⨾ tt)) (With (Passed walk (c .kind) (came .ruling)) (came .holds))
 
 -- behind the last record
 unfoldable pub ScalingClosing : Walk → Ruling Scaled
@@ -102,13 +102,13 @@ ScalingClosing walk = cond (eqb (walk .no) 0) (cond (walk .ended) (gives (false-
 
 -- a turn of the walk with the buffers, and what it comes to, by its ruling
 abbrev pub ScalingTurn : (s z : List Float) → Underway → Cone → Underway
-ScalingTurn s z t c = ScalingFurther (t .0) c s z (t .1) (t .2) (t .3) (t .4) (t .5) (t .6)
+ScalingTurn s z t c = ScalingFurther (t .0) c s z (t .1) (t .2) (t .3) (t .4) (t .5) (t .6) (t .7)
 
 abbrev pub AsOutcome : Ruling Scaled → Underway → Outcome Scaled Written
-AsOutcome ruling t = tells ruling (t .1 ⨾ t .2 ⨾ t .3 ⨾ t .4 ⨾ t .5 ⨾ t .6 ⨾ tt)
+AsOutcome ruling t = tells ruling (t .1 ⨾ t .2 ⨾ t .3 ⨾ t .4 ⨾ t .5 ⨾ t .6 ⨾ t .7 ⨾ tt)
 
 -- all of it, by the first cone's place
-abbrev pub ScalingFrom : List Cone → Place → (s z w lambda u v η d : List Float) → Outcome Scaled Written
-ScalingFrom cs p s z w lambda u v η d =
-    let all : Underway = OverRecords (ScalingTurn s z) cs (With (ScalingOpening (length cs) p s z w lambda u v η d) (w ⨾ lambda ⨾ u ⨾ v ⨾ η ⨾ d ⨾ tt)) in
+abbrev pub ScalingFrom : List Cone → Place → (s z w lambda u v η d : List Float) (marks : List ℕ) → Outcome Scaled Written
+ScalingFrom cs p s z w lambda u v η d marks =
+    let all : Underway = OverRecords (ScalingTurn s z) cs (With (ScalingOpening (length cs) p s z w lambda u v η d marks) (w ⨾ lambda ⨾ u ⨾ v ⨾ η ⨾ d ⨾ marks ⨾ tt)) in
     AsOutcome (ScalingClosing (all .0)) all

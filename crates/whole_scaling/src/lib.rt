@@ -44,10 +44,11 @@ pub fn scaling_opening(
     v: &mut [f64],
     eta: &mut [f64],
     d: &mut [f64],
+    marks: &mut [u8],
 ) -> Walk
-    ensures { λ r. ⌜ (r, now (w .exit), now (lambda .exit), now (u .exit), now (v .exit), now (eta .exit), now (d .exit))
-        ≡ With (ScalingOpening cones p (now (s .entry)) (now (z .entry)) (now (w .entry)) (now (lambda .entry)) (now (u .entry)) (now (v .entry)) (now (eta .entry)) (now (d .entry)))
-        (now (w .entry) ⨾ now (lambda .entry) ⨾ now (u .entry) ⨾ now (v .entry) ⨾ now (eta .entry) ⨾ now (d .entry) ⨾ tt) ⌝ }
+    ensures { λ r. ⌜ (r, now (w .exit), now (lambda .exit), now (u .exit), now (v .exit), now (eta .exit), now (d .exit), now (marks .exit))
+        ≡ With (ScalingOpening cones p (now (s .entry)) (now (z .entry)) (now (w .entry)) (now (lambda .entry)) (now (u .entry)) (now (v .entry)) (now (eta .entry)) (now (d .entry)) (now (marks .entry)))
+        (now (w .entry) ⨾ now (lambda .entry) ⨾ now (u .entry) ⨾ now (v .entry) ⨾ now (eta .entry) ⨾ now (d .entry) ⨾ now (marks .entry) ⨾ tt) ⌝ }
 {
     let entries = p.entries;
     let count = p.count;
@@ -57,6 +58,7 @@ pub fn scaling_opening(
         & (v.len() == entries)
         & (eta.len() == count)
         & (d.len() == count)
+        & (marks.len() == count)
         & (s.len() == entries)
         & (z.len() == entries);
     let no = answers::first_refusal(list_refusal(cones, p.no), answers::length_refusal(same));
@@ -134,10 +136,11 @@ pub fn scaling_further(
     v: &mut [f64],
     eta: &mut [f64],
     d: &mut [f64],
+    marks: &mut [u8],
 ) -> Walk
-    requires { ⌜ Fitting walk (now s) (now z) (now w) (now lambda) (now u) (now v) (now eta) (now d) ⌝ }
-    ensures { λ r. ⌜ (r, now (w .exit), now (lambda .exit), now (u .exit), now (v .exit), now (eta .exit), now (d .exit))
-        ≡ ScalingFurther walk c (now (s .entry)) (now (z .entry)) (now (w .entry)) (now (lambda .entry)) (now (u .entry)) (now (v .entry)) (now (eta .entry)) (now (d .entry)) ⌝ }
+    requires { ⌜ Fitting walk (now s) (now z) (now w) (now lambda) (now u) (now v) (now eta) (now d) (now marks) ⌝ }
+    ensures { λ r. ⌜ (r, now (w .exit), now (lambda .exit), now (u .exit), now (v .exit), now (eta .exit), now (d .exit), now (marks .exit))
+        ≡ ScalingFurther walk c (now (s .entry)) (now (z .entry)) (now (w .entry)) (now (lambda .entry)) (now (u .entry)) (now (v .entry)) (now (eta .entry)) (now (d .entry)) (now (marks .entry)) ⌝ }
 {
     if walk.ended {
         return walk;
@@ -153,7 +156,7 @@ pub fn scaling_further(
         count: walk.count,
         blocks: walk.blocks,
     };
-    let answer = list_scaling::update_scaling_fit(p, s, z, w, lambda, u, v, eta, d);
+    let answer = list_scaling::update_scaling_fit(p, s, z, w, lambda, u, v, eta, d, marks);
     passed(walk, kind, answer)
 }
 
@@ -184,14 +187,15 @@ pub fn scaling_from(
     v: &mut [f64],
     eta: &mut [f64],
     d: &mut [f64],
+    marks: &mut [u8],
 ) -> Scalings
-    ensures { λ r. ⌜ tells (ofScalings r) (now (w .exit) ⨾ now (lambda .exit) ⨾ now (u .exit) ⨾ now (v .exit) ⨾ now (eta .exit) ⨾ now (d .exit) ⨾ tt)
-        ≡ ScalingFrom (now (list .entry)) p (now (s .entry)) (now (z .entry)) (now (w .entry)) (now (lambda .entry)) (now (u .entry)) (now (v .entry)) (now (eta .entry)) (now (d .entry)) ⌝ }
+    ensures { λ r. ⌜ tells (ofScalings r) (now (w .exit) ⨾ now (lambda .exit) ⨾ now (u .exit) ⨾ now (v .exit) ⨾ now (eta .exit) ⨾ now (d .exit) ⨾ now (marks .exit) ⨾ tt)
+        ≡ ScalingFrom (now (list .entry)) p (now (s .entry)) (now (z .entry)) (now (w .entry)) (now (lambda .entry)) (now (u .entry)) (now (v .entry)) (now (eta .entry)) (now (d .entry)) (now (marks .entry)) ⌝ }
 {
-    let mut walk = scaling_opening(list.len(), p, s, z, w, lambda, u, v, eta, d);
+    let mut walk = scaling_opening(list.len(), p, s, z, w, lambda, u, v, eta, d, marks);
     let mut i: usize = 0;
     while i < list.len() {
-        walk = scaling_further(walk, list[i], s, z, w, lambda, u, v, eta, d);
+        walk = scaling_further(walk, list[i], s, z, w, lambda, u, v, eta, d, marks);
         i += 1;
     }
     scaling_closing(walk)
@@ -208,10 +212,11 @@ pub fn list_update_scaling(
     v: &mut [f64],
     eta: &mut [f64],
     d: &mut [f64],
+    marks: &mut [u8],
 ) -> Scalings
-    ensures { λ r. ⌜ tells (ofScalings r) (now (w .exit) ⨾ now (lambda .exit) ⨾ now (u .exit) ⨾ now (v .exit) ⨾ now (eta .exit) ⨾ now (d .exit) ⨾ tt)
-        ≡ ListUpdateScaling (now (list .entry)) (now (s .entry)) (now (z .entry)) (now (w .entry)) (now (lambda .entry)) (now (u .entry)) (now (v .entry)) (now (eta .entry)) (now (d .entry)) ⌝ }
+    ensures { λ r. ⌜ tells (ofScalings r) (now (w .exit) ⨾ now (lambda .exit) ⨾ now (u .exit) ⨾ now (v .exit) ⨾ now (eta .exit) ⨾ now (d .exit) ⨾ now (marks .exit) ⨾ tt)
+        ≡ ListUpdateScaling (now (list .entry)) (now (s .entry)) (now (z .entry)) (now (w .entry)) (now (lambda .entry)) (now (u .entry)) (now (v .entry)) (now (eta .entry)) (now (d .entry)) (now (marks .entry)) ⌝ }
 {
     let p = conewalk::first_place(list);
-    scaling_from(list, p, s, z, w, lambda, u, v, eta, d)
+    scaling_from(list, p, s, z, w, lambda, u, v, eta, d, marks)
 }

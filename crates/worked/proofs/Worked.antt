@@ -1,5 +1,5 @@
 -- Document 01, "Small examples": the lines marked T, as one statement over one list of them; the step along (−1, 1) as document 02, item 3,
--- changes it. Assumes nothing.
+-- changes it, and the late false as item 4 does. Assumes nothing.
 use Prim.Native.Nat.{ℕ, zero, suc}
 use mathlib.Core.Path.{_≡_, refl, ap}
 use mathlib.Core.Bool.{Bool, true, false}
@@ -91,7 +91,7 @@ lines =
     ∷ (of 0 0 (SocResidual (two (minus 2 1) 0·0)) ⇒ is (near 4 1))
     ∷ (of 0 0 (SocStands (two (minus 2 1) 0·0)) ⇒ answer (stands Mirrored) [])
     ∷ (scale (two (near 5 1) (near 3 1)) (two (near 5 1) (minus 3 1)) ⇒ scaled true 1·0 (two (near 5 4) (near 3 4)) (two (near 4 1) 0·0))
-    ∷ (scale (two (near 2 1) 0·0) (two (minus 2 1) 0·0) ⇒ scaled false 1·0 (twice 0) (twice 7))
+    ∷ (scale (two (near 2 1) 0·0) (two (minus 2 1) 0·0) ⇒ scaled false 0·0 (twice 9) (twice 7))
     ∷ (scale (two (minus 2 1) 0·0) (two (minus 2 1) 0·0) ⇒ scaled true 1·0 (two 1·0 0·0) (two (near 2 1) nan))
     ∷ (of 0 0 (NnStep (three (near 4 1) 1·0 (near 9 1)) (three (minus 1 1) (near 2 1) (minus 3 1)) (near 10 1)) ⇒ is (near 3 1))
     ∷ (of 0 0 (NnStep (one nan) (one (minus 1 1)) 1·0) ⇒ is 1·0)

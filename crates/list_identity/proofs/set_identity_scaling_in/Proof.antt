@@ -7,7 +7,7 @@ use Rattle.answers.specs.Outcome.{_⨾_}
 use Rattle.conelist.proofs.Placed.{lent}
 use Rattle.conecalls.proofs.Ranges.{ranges, cuts-fit}
 use Rattle.conecalls.proofs.Return.{backs}
-use Rattle.list_identity.specs.Identity.{SetIdentityScalingDeed}
+use Rattle.list_identity.specs.Identity.{SetIdentityScalingUnmarked}
 use Rattle.list_identity.proofs.set_identity_scaling_in.Statement.{statement}
 use Rattle.list_identity.proofs.set_identity_scaling_in.Tie as tie
 
@@ -29,5 +29,5 @@ set-identity-scaling-in-spec =
     let dim = kernel .before .before .before .before .before .before in
     let long = dim .dim .ensures in
     let a = dim .before .before .before .before .before .before .args in
-    backs (a .p) long refl (SetIdentityScalingDeed .writes) (a .w .now ⨾ a .u .now ⨾ a .v .now ⨾ a .eta .now ⨾ a .d .now ⨾ tt)
+    backs (a .p) long refl (SetIdentityScalingUnmarked .writes) (a .w .now ⨾ a .u .now ⨾ a .v .now ⨾ a .eta .now ⨾ a .d .now ⨾ tt)
     (simp (lent long) at (kernel .kind-set-identity-scaling .ensures))))

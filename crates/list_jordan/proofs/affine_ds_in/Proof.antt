@@ -7,7 +7,7 @@ use Rattle.answers.proofs.Laws.{and-more}
 use Rattle.conelist.proofs.Placed.{lent}
 use Rattle.conecalls.proofs.Ranges.{cuts-fit}
 use Rattle.conecalls.proofs.Return.{backs}
-use Rattle.list_jordan.specs.Jordan.{AffineDsDeed}
+use Rattle.list_jordan.specs.Jordan.{AffineDsUnmarked}
 use Rattle.list_jordan.proofs.affine_ds_in.Statement.{statement}
 use Rattle.list_jordan.proofs.affine_ds_in.Tie as tie
 
@@ -28,5 +28,5 @@ affine-ds-in-spec =
     let dim = kernel .before .before .before in
     let long = dim .dim .ensures in
     let a = dim .before .before .before .args in
-    backs (a .p) long refl (AffineDsDeed .writes) (a .ds .now ⨾ tt)
+    backs (a .p) long refl (AffineDsUnmarked .writes) (a .ds .now ⨾ tt)
     (and-more (simp (lent long) at (kernel .kind-affine-ds .ensures)) refl)))

@@ -7,7 +7,7 @@ use Rattle.answers.proofs.Laws.{and-more}
 use Rattle.conelist.proofs.Placed.{lent}
 use Rattle.conecalls.proofs.Ranges.{cuts-fit}
 use Rattle.conecalls.proofs.Return.{backs}
-use Rattle.list_jordan.specs.Jordan.{LambdaInvCircOpDeed}
+use Rattle.list_jordan.specs.Jordan.{LambdaInvCircOpUnmarked}
 use Rattle.list_jordan.proofs.lambda_inv_circ_op_in.Statement.{statement}
 use Rattle.list_jordan.proofs.lambda_inv_circ_op_in.Tie as tie
 
@@ -28,5 +28,5 @@ lambda-inv-circ-op-in-spec =
     let dim = kernel .before .before .before .before in
     let long = dim .dim .ensures in
     let a = dim .before .before .before .before .args in
-    backs (a .p) long refl (LambdaInvCircOpDeed .writes) (a .x .now ⨾ tt)
+    backs (a .p) long refl (LambdaInvCircOpUnmarked .writes) (a .x .now ⨾ tt)
     (and-more (simp (lent long) at (kernel .kind-lambda-inv-circ-op .ensures)) refl)))

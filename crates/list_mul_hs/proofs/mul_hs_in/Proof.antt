@@ -7,7 +7,7 @@ use Rattle.answers.proofs.Laws.{and-more}
 use Rattle.conelist.proofs.Placed.{lent}
 use Rattle.conecalls.proofs.Ranges.{cuts-fit}
 use Rattle.conecalls.proofs.Return.{backs}
-use Rattle.list_mul_hs.specs.Block.{MulHsDeed}
+use Rattle.list_mul_hs.specs.Block.{MulHsUnmarked}
 use Rattle.list_mul_hs.proofs.mul_hs_in.Statement.{statement}
 use Rattle.list_mul_hs.proofs.mul_hs_in.Tie as tie
 
@@ -29,5 +29,5 @@ mul-hs-in-spec =
     let dim = kernel .before .before .before .before .before in
     let long = dim .dim .ensures in
     let a = dim .before .before .before .before .before .args in
-    backs (a .p) long refl (MulHsDeed .writes) (a .y .now ⨾ tt)
+    backs (a .p) long refl (MulHsUnmarked .writes) (a .y .now ⨾ tt)
     (and-more (simp (lent long) at (kernel .kind-mul-hs .ensures)) refl)))

@@ -7,7 +7,7 @@ use Rattle.answers.proofs.Laws.{and-more}
 use Rattle.conelist.proofs.Placed.{lent}
 use Rattle.conecalls.proofs.Ranges.{cuts-fit}
 use Rattle.conecalls.proofs.Return.{backs}
-use Rattle.list_products.specs.Product.{MulWDeed}
+use Rattle.list_products.specs.Product.{MulWUnmarked}
 use Rattle.list_products.proofs.mul_w_in.Statement.{statement}
 use Rattle.list_products.proofs.mul_w_in.Tie as tie
 
@@ -29,5 +29,5 @@ mul-w-in-spec =
     let dim = kernel .before .before .before .before .before in
     let long = dim .dim .ensures in
     let a = dim .before .before .before .before .before .args in
-    backs (a .p) long refl (MulWDeed (a .alpha) (a .beta) .writes) (a .y .now ⨾ tt)
+    backs (a .p) long refl (MulWUnmarked (a .alpha) (a .beta) .writes) (a .y .now ⨾ tt)
     (and-more (simp (lent long) at (kernel .kind-mul-w .ensures)) refl)))

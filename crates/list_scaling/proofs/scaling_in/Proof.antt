@@ -7,7 +7,7 @@ use Rattle.answers.specs.Outcome.{_⨾_}
 use Rattle.conelist.proofs.Placed.{lent}
 use Rattle.conecalls.proofs.Ranges.{ranges, cuts-fit}
 use Rattle.conecalls.proofs.Return.{works}
-use Rattle.list_scaling.specs.Scaling.{UpdateScalingDeed}
+use Rattle.list_scaling.specs.Scaling.{UpdateScalingUnmarked}
 use Rattle.list_scaling.proofs.scaling_in.Statement.{statement}
 use Rattle.list_scaling.proofs.scaling_in.Tie as tie
 
@@ -29,5 +29,5 @@ scaling-in-spec =
     let dim = kernel .before .before .before .before .before .before .before .before .before in
     let long = dim .dim .ensures in
     let a = dim .before .before .before .before .before .before .before .before .before .args in
-    works (a .p) long refl (UpdateScalingDeed .writes) (a .w .now ⨾ a .lambda .now ⨾ a .u .now ⨾ a .v .now ⨾ a .eta .now ⨾ a .d .now ⨾ tt)
+    works (a .p) long refl (UpdateScalingUnmarked .writes) (a .w .now ⨾ a .lambda .now ⨾ a .u .now ⨾ a .v .now ⨾ a .eta .now ⨾ a .d .now ⨾ tt)
     (simp (lent long) at (kernel .kind-scaling .ensures))))

@@ -1,7 +1,7 @@
 -- `list_scaling::update_scaling_fit` meets its contract. Assumes nothing.
 use borrow.Author.Needs.{needs}
 use Rattle.answers.proofs.Laws.{does, outcomes}
-use Rattle.list_scaling.proofs.Laws.{alike, opened}
+use Rattle.list_scaling.proofs.Laws.{alike, opened, unmarked, mark-within, with-mark}
 use Rattle.list_scaling.proofs.update_scaling_fit.Statement.{statement}
 use Rattle.list_scaling.proofs.update_scaling_fit.Tie as tie
 
@@ -10,19 +10,26 @@ update-scaling-fit-spec =
     tie.close (tie.spec
     (λ c κs. search needs)
     (λ c.
-    let start = c .before .before .before .before .before .before .before .before .before .before in
+    let start = c .before .before .before .before .before .before .before .before .before .before .before in
     let a = start .args in
-    let e = alike (a .p) (a .s .now) (a .z .now) (a .w .now) (a .lambda .now) (a .u .now) (a .v .now) (a .eta .now) (a .d .now) (start .pre) (c .before .spot .ensures) in
+    let e = alike (a .p) (a .s .now) (a .z .now) (a .w .now) (a .lambda .now) (a .u .now) (a .v .now) (a .eta .now) (a .d .now) (a .marks .now) (start .pre) (c .before .spot .ensures) in
     search outcomes)
     (λ c κs.
     let test = c .before .before .before .before .before .before in
-    let start = test .before .before .before .before .before .before .before .before .before .before in
+    let start = test .before .before .before .before .before .before .before .before .before .before .before in
     let a = start .args in
-    opened (a .p) (a .s .now) (a .z .now) (a .w .now) (a .lambda .now) (a .u .now) (a .v .now) (a .eta .now) (a .d .now) (start .pre) (test .before .spot .ensures) (test .if1 .left))
-    (λ c. search needs) (λ c. search needs) (λ c. search needs) (λ c. search needs) (λ c. search needs) (λ c. search needs)
+    unmarked (a .p) (a .s .now) (a .z .now) (a .w .now) (a .lambda .now) (a .u .now) (a .v .now) (a .eta .now) (a .d .now) (a .marks .now)
+    (opened (a .p) (a .s .now) (a .z .now) (a .w .now) (a .lambda .now) (a .u .now) (a .v .now) (a .eta .now) (a .d .now) (a .marks .now) (start .pre) (test .before .spot .ensures) (test .if1 .left)))
+    (λ c κs.
+    let test = c .before .before .before .before .before .before .before .before .before .before .before .before .before .before .before .before .before .before .before .before in
+    let start = test .before .before .before .before .before .before .before .before .before .before .before in
+    let a = start .args in
+    mark-within (a .p) (a .s .now) (a .z .now) (a .w .now) (a .lambda .now) (a .u .now) (a .v .now) (a .eta .now) (a .d .now) (a .marks .now)
+    (opened (a .p) (a .s .now) (a .z .now) (a .w .now) (a .lambda .now) (a .u .now) (a .v .now) (a .eta .now) (a .d .now) (a .marks .now) (start .pre) (test .before .spot .ensures) (test .if1 .left)))
+    (λ c. search needs) (λ c. search needs) (λ c. search needs) (λ c. search needs) (λ c. search needs) (λ c. search needs) (λ c. search needs)
     (λ c.
-    let call = c .before .before .before .before .before .before .before .before .before .before .before .before in
-    let test = call .before .before .before .before .before .before .before in
-    let start = test .before .before .before .before .before .before .before .before .before .before in
+    let test = c .before .before .before .before .before .before .before .before .before .before .before .before .before .before .before .before .before .before .before .before .before .before .before in
+    let start = test .before .before .before .before .before .before .before .before .before .before .before in
     let a = start .args in
-    does _ _ _ _ (alike (a .p) (a .s .now) (a .z .now) (a .w .now) (a .lambda .now) (a .u .now) (a .v .now) (a .eta .now) (a .d .now) (start .pre) (test .before .spot .ensures)) (test .if1 .left) (call .scaling-in .ensures)))
+    does _ _ _ _ (alike (a .p) (a .s .now) (a .z .now) (a .w .now) (a .lambda .now) (a .u .now) (a .v .now) (a .eta .now) (a .d .now) (a .marks .now) (start .pre) (test .before .spot .ensures)) (test .if1 .left)
+    (with-mark (a .p) (a .s .now) (a .z .now) (a .w .now) (a .lambda .now) (a .u .now) (a .v .now) (a .eta .now) (a .d .now) (a .marks .now) (c .before .before .before .before .before .before .before .before .before .before .before .before .before .before .before .before .scaling-in .ensures) (c .before .before .set-scaled .ensures))))

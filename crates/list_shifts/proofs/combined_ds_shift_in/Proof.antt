@@ -7,7 +7,7 @@ use Rattle.answers.specs.Outcome.{_⨾_}
 use Rattle.conelist.proofs.Placed.{lent}
 use Rattle.conecalls.proofs.Ranges.{ranges, cuts-fit}
 use Rattle.conecalls.proofs.Return.{backs}
-use Rattle.list_shifts.specs.Shift.{CombinedDsShiftDeed}
+use Rattle.list_shifts.specs.Shift.{CombinedDsShiftUnmarked}
 use Rattle.list_shifts.proofs.combined_ds_shift_in.Statement.{statement}
 use Rattle.list_shifts.proofs.combined_ds_shift_in.Tie as tie
 
@@ -29,5 +29,5 @@ combined-ds-shift-in-spec =
     let dim = kernel .before .before .before .before .before .before in
     let long = dim .dim .ensures in
     let a = dim .before .before .before .before .before .before .args in
-    backs (a .p) long refl (CombinedDsShiftDeed (a .sigma-mu) .writes) (a .shift .now ⨾ a .step-z .now ⨾ a .step-s .now ⨾ tt)
+    backs (a .p) long refl (CombinedDsShiftUnmarked (a .sigma-mu) .writes) (a .shift .now ⨾ a .step-z .now ⨾ a .step-s .now ⨾ tt)
     (simp (lent long) at (kernel .kind-combined-ds-shift .ensures))))

@@ -8,7 +8,7 @@ use Rattle.answers.proofs.Laws.{and-more}
 use Rattle.conelist.proofs.Placed.{lent}
 use Rattle.conecalls.proofs.Ranges.{ranges, cuts-fit}
 use Rattle.conecalls.proofs.Return.{backs}
-use Rattle.list_shifts.specs.Shift.{DsFromDzOffsetDeed}
+use Rattle.list_shifts.specs.Shift.{DsFromDzOffsetUnmarked}
 use Rattle.list_shifts.proofs.ds_from_dz_offset_in.Statement.{statement}
 use Rattle.list_shifts.proofs.ds_from_dz_offset_in.Tie as tie
 
@@ -31,5 +31,5 @@ ds-from-dz-offset-in-spec =
     let dim = kernel .before .before .before .before .before .before .before in
     let long = dim .dim .ensures in
     let a = dim .before .before .before .before .before .before .before .args in
-    backs (a .p) long refl (DsFromDzOffsetDeed .writes) (a .out .now ⨾ tt)
+    backs (a .p) long refl (DsFromDzOffsetUnmarked .writes) (a .out .now ⨾ tt)
     (and-more (simp (lent long) at (kernel .kind-ds-from-dz-offset .ensures)) refl)))

@@ -9,4 +9,4 @@ block-spec =
     tie.close (tie.spec
     (λ c κs. search needs) (λ c κs. search needs) (λ c κs. search needs) (λ c κs. search needs) (λ c. search needs)
     (λ c. search (needs, length-take-le)) (λ c. search (needs, length-take-le)) (λ c. search (needs, length-take-le))
-    (λ c. search (needs, length-take-le)) (λ c κs. search needs) (λ c κs. search needs) (λ c. search needs))
+    (λ c. search (needs, length-take-le)) (λ c. search (needs, length-take-le)) (λ c κs. search needs) (λ c κs. search needs) (λ c. search needs))

@@ -8,8 +8,8 @@ pub scale-spec : {M : Type 1} → statement M
 scale-spec =
     tie.close (tie.spec
     (λ c κs. search needs) (λ c κs. search needs) (λ c κs. search needs) (λ c κs. search needs) (λ c κs. search needs) (λ c κs. search needs)
-    (λ c κs. search needs) (λ c κs. search needs) (λ c κs. search needs) (λ c κs. search needs) (λ c κs. search needs) (λ c. search needs)
-    (λ c. search (needs, length-take-le)) (λ c. search needs) (λ c. search (needs, length-take-le)) (λ c. search needs)
+    (λ c κs. search needs) (λ c κs. search needs) (λ c κs. search needs) (λ c κs. search needs) (λ c κs. search needs) (λ c κs. search needs) (λ c. search needs)
+    (λ c. search (needs, length-take-le)) (λ c. search needs) (λ c. search (needs, length-take-le)) (λ c. search needs) (λ c. search (needs, length-take-le)) (λ c. search needs)
     (λ c. search (needs, length-take-le)) (λ c. search needs) (λ c. search (needs, length-take-le)) (λ c. search needs)
     (λ c. search (needs, length-take-le)) (λ c. search needs) (λ c. search (needs, length-take-le)) (λ c. search needs)
     (λ c. search (needs, length-take-le)) (λ c. search needs) (λ c. search (needs, length-take-le)) (λ c κs. search needs)

@@ -8,4 +8,4 @@ pub akm-whole-update-scaling-spec : {M : Type 1} → statement M
 akm-whole-update-scaling-spec =
     tie.close (tie.spec
     (λ c κs. search needs) (λ c κs. search needs) (λ c. search needs) (λ c. search needs) (λ c. search needs) (λ c. search needs) (λ c. search needs)
-    (λ c. search needs) (λ c. search exported))
+    (λ c. search needs) (λ c. search needs) (λ c. search exported))
