@@ -1,5 +1,7 @@
 // The library for C: every bare call of both cones (soc.rt, nn.rt), every call on a list of cones (list.rt), a fresh state, and the three
 // operations on numbers. include/akmuzrel.h declares them. Of our own; nothing is ported.
+#![tactic(auto)]
+
 mod list;
 mod nn;
 mod soc;

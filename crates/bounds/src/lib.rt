@@ -1,4 +1,6 @@
 // The least entry and the sum of the positive ones, in one pass over a whole slice (document 01, "Numbers").
+#![tactic(auto)]
+
 ghost use Rattle.std.specs.Prelude.{◌≡◌, false};
 ghost use Rattle.std.specs.Float.Ieee.{is_nan};
 ghost use Rattle.extrema.specs.Extrema.{least_of};

@@ -1,4 +1,6 @@
 // What the program replay writes of an answer: the refusal's number, 0 for none, then the values. Of our own; nothing is ported.
+#![tactic(auto)]
+
 use answers::{Answer, Margins, Number, Scaling, Scalings, Square, Standing, Stands, Step, Steps};
 
 // A double by the 16 digits of its bits, or the word NaN.

@@ -1,4 +1,6 @@
 // The row of records with which the words of a recorded case begin (docs/CASES.md). Of our own; nothing is ported.
+#![tactic(auto)]
+
 ghost use Rattle.std.specs.Prelude.{◌≡◌, ◌≤◌, ◌*◌, length};
 ghost use Rattle.cases.specs.Text.{Counts};
 ghost use Rattle.case_rows.specs.Rows.{records, list_of};

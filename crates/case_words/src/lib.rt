@@ -3,6 +3,8 @@
 //
 // What is wrong with them is told by a number: 6 words that are missing, 7 a slice of over 64 entries, 8 a row of over 260 records, 9 words
 // that are left over.
+#![tactic(auto)]
+
 ghost use Rattle.std.specs.Prelude.{◌≡◌, ◌≤◌, ◌%◌, length};
 ghost use Rattle.std.specs.Float.{binary64};
 ghost use Rattle.std.specs.Float.Ieee.{of_bits};

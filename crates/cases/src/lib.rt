@@ -2,6 +2,8 @@
 //
 // A line is read byte by byte, so that its length has no bound. What is wrong with it is told by a number: 1 a byte that is no digit, 2 an
 // empty word, 3 a word of over 16 digits, 4 too many words.
+#![tactic(auto)]
+
 ghost use Rattle.std.specs.Prelude.{◌≡◌, ◌<◌, ◌+◌, ◌*◌};
 ghost use Rattle.cases.specs.Text.{Counts, digit, bad, grown, ends, takes, closes};
 

@@ -1,5 +1,7 @@
 // How an answer crosses to C: the refusal's number is returned, 0 for none, and the values go into numbers that the caller lends. A
 // refusal leaves those as they are. Of our own; nothing is ported.
+#![tactic(auto)]
+
 ghost use Rattle.std.specs.Prelude.{◌≡◌, [], ◌∷◌};
 ghost use Rattle.answers.specs.Outcome.{of_answer, of_margins, of_scaling, of_scalings, of_number, of_step, of_steps, of_stands};
 ghost use Rattle.codes.specs.Code.{real, whole, standing_number, values_of, scaled_values, reported, report};

@@ -1,5 +1,7 @@
 // The list of cones (document 01, "The list and its buffers" and "Refusal numbers"): its records, and the refusals of a call on one cone of it.
 // Ported from nothing: the crate has no list of its own, and its cones own their buffers.
+#![tactic(auto)]
+
 ghost use Rattle.std.specs.Prelude.{◌≡◌, ◌+◌, leb};
 ghost use Rattle.answers.specs.Refusal.{◌⊳◌, unlike};
 ghost use Rattle.conelist.specs.Layout.{dim, least_dim, block_dim, carried, counted_of, misplaced, spot_of};

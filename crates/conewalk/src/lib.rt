@@ -1,5 +1,7 @@
 // Where cone k of a lent row of records lies (document 01, "The list and its buffers" and "Refusal numbers"): the row is walked once, and checked
 // record by record, by the turns of place_turns. Ported from nothing: the crate has no list of its own.
+#![tactic(auto)]
+
 ghost use Rattle.std.specs.Prelude.{◌≡◌};
 ghost use Rattle.conelist.specs.Layout.{place_of};
 

@@ -1,4 +1,6 @@
 // The vector helpers (document 01, "Numbers") that fold a whole slice to one number, from left to right. The caller owes equal lengths.
+#![tactic(auto)]
+
 ghost use Rattle.std.specs.Prelude.{◌≡◌, length};
 ghost use Rattle.vecmath.specs.Vector.{dot, sumsq, norm};
 

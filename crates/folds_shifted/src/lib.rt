@@ -1,5 +1,7 @@
 // The norm of a sum that is not stored: z + alpha·dz (document 01, "Numbers"), and a·x + b·y (document 02, item 4). The caller owes equal
 // lengths.
+#![tactic(auto)]
+
 ghost use Rattle.std.specs.Prelude.{◌≡◌, length};
 ghost use Rattle.vecmath.specs.Double.{𝟏};
 ghost use Rattle.vecmath.specs.Vector.{sumsq, norm, sumsq_shifted, norm_shifted, scale_of, axpby};

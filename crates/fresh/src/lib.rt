@@ -1,5 +1,7 @@
 // A fresh state (document 01, "The list and its buffers"), which the source's `new` makes (000, lines 22 to 28 and 45 to 69; 001, lines 20 to
 // 26). Any lengths: each buffer is filled by itself, so that nothing is refused, for one cone as for a list.
+#![tactic(auto)]
+
 ghost use Rattle.std.specs.Prelude.{◌≡◌};
 ghost use Rattle.answers.specs.Outcome.{◌⨾◌};
 ghost use Rattle.fresh.specs.State.{fresh_state};

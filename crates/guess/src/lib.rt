@@ -1,6 +1,7 @@
 // A guess at the digits of a square root (document 02, item 2). New: it ports no lines. Of it nothing is proved but that it is safe: crate root
 // checks it exactly, and only a root's time rests on the numbers below. The file is Rust too, and compare/roots counts by it how often the guess
 // is wrong.
+#![tactic(auto)]
 
 // The line that is .0 + .1 * x at x.
 #[derive(Drop)]

@@ -1,6 +1,8 @@
 // The block Hs of one cone of a list, packed (document 01, "Second-order rules" and "Nonnegative rules"; source documents 000, lines 217 to
 // 246, and 001, lines 96 to 101), over the cone's place: by the cone's kind, on the cone's own ranges, and the call, which needs a mark (document
 // 02, item 4).
+#![tactic(auto)]
+
 ghost use Rattle.std.specs.Prelude.{◌≡◌, [], ◌∷◌, length};
 ghost use Rattle.vecmath.specs.Double.{◌!◌};
 ghost use Rattle.answers.specs.Refusal.{Fit};

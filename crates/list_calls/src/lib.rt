@@ -1,5 +1,7 @@
 // The calls on one cone of a list (document 01, "The list and its buffers"; source documents 000, 001 and 002), over the lent row of
 // records. Written by tools/surface.
+#![tactic(auto)]
+
 ghost use Rattle.std.specs.Prelude.{◌≡◌};
 ghost use Rattle.answers.specs.Outcome.{tells, of_margins, of_answer, of_scaling, of_square, of_steps, of_stands, as_squared, ◌⨾◌};
 ghost use Rattle.conelist.specs.Layout.{place_of};

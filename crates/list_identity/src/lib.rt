@@ -1,5 +1,7 @@
 // set_identity_scaling of one cone of a list (document 01, "Second-order rules" and "Nonnegative rules"; of marks document 02, item 4),
 // over the cone's place. For each: by the cone's kind, on the cone's own ranges, and the call. Written by tools/surface.
+#![tactic(auto)]
+
 ghost use Rattle.std.specs.Prelude.{◌≡◌, [], ◌∷◌, length};
 ghost use Rattle.answers.specs.Refusal.{Fit};
 ghost use Rattle.answers.specs.Outcome.{tells, of_answer, ◌⨾◌};

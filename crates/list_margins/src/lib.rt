@@ -1,5 +1,7 @@
 // Margins of one cone of a list (document 01, "Second-order rules" and "Nonnegative rules"; source documents 000, lines 104 to 108, and 001,
 // lines 58 to 62), over the cone's place: by the cone's kind, on the cone's own range, and the call.
+#![tactic(auto)]
+
 ghost use Rattle.std.specs.Prelude.{◌≡◌, [], ◌∷◌, length};
 ghost use Rattle.answers.specs.Refusal.{Fit};
 ghost use Rattle.answers.specs.Outcome.{gives, of_margins, tells};

@@ -1,5 +1,7 @@
 // `update_scaling` of one cone of a list (document 01, "Second-order rules" and "Nonnegative rules"; source documents 000, lines 134 to 211, and
 // 001, lines 77 to 90), over the cone's place: by the cone's kind, on the cone's own ranges, and the call, which sets the mark (document 02, item 4).
+#![tactic(auto)]
+
 ghost use Rattle.std.specs.Prelude.{◌≡◌, [], ◌∷◌, length};
 ghost use Rattle.answers.specs.Refusal.{Fit};
 ghost use Rattle.answers.specs.Outcome.{truth, tells, of_scaling, ◌⨾◌};

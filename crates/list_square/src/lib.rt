@@ -1,5 +1,7 @@
 // The block Hs of one cone of a list as a square matrix (document 01, "Forms by place"; source document 000, lines 217 to 246), over the
 // cone's place: on the cone's own ranges, and the call, which needs a mark (document 02, item 4).
+#![tactic(auto)]
+
 ghost use Rattle.std.specs.Prelude.{◌≡◌, [], ◌∷◌, map, length};
 ghost use Rattle.vecmath.specs.Double.{◌!◌};
 ghost use Rattle.answers.specs.Refusal.{◌⊳◌, unlike};

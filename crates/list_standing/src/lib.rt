@@ -1,5 +1,7 @@
 // The standing of one cone of a list (document 01, "Standing"), over the cone's place: by the cone's kind, on the cone's own range, and the
 // call.
+#![tactic(auto)]
+
 ghost use Rattle.std.specs.Prelude.{◌≡◌, [], ◌∷◌, length};
 ghost use Rattle.answers.specs.Refusal.{Fit};
 ghost use Rattle.answers.specs.Outcome.{of_stands, tells};

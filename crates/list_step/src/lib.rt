@@ -1,5 +1,7 @@
 // The step lengths of one cone of a list (document 01, "Second-order rules" and "Nonnegative rules"; source documents 000, lines 289 to 302 and
 // 421 to 495, and 001, step_length), over the cone's place: by the cone's kind, on the cone's own ranges, and the call.
+#![tactic(auto)]
+
 ghost use Rattle.std.specs.Prelude.{◌≡◌, [], ◌∷◌, length};
 ghost use Rattle.answers.specs.Refusal.{◌⊳◌, unlike, bad_limit, Fit};
 ghost use Rattle.answers.specs.Outcome.{lengths, of_steps, tells};

@@ -1,5 +1,7 @@
 // Unit initialisation of one cone of a list (document 01, "Second-order rules" and "Nonnegative rules"; source documents 000, lines 114 to 119,
 // and 001, lines 68 to 71), over the cone's place: by the cone's kind, on the cone's own ranges, and the call.
+#![tactic(auto)]
+
 ghost use Rattle.std.specs.Prelude.{◌≡◌, [], ◌∷◌, length};
 ghost use Rattle.answers.specs.Refusal.{Fit};
 ghost use Rattle.answers.specs.Outcome.{tells, of_answer, ◌⨾◌};

@@ -1,5 +1,7 @@
 // The calls on one cone of a list, of a program's own row: of its first so many records (document 01, "The list and its buffers"). Written
 // by tools/surface.
+#![tactic(auto)]
+
 ghost use Rattle.std.specs.Prelude.{◌≡◌, take};
 ghost use Rattle.answers.specs.Outcome.{tells, of_margins, of_answer, of_scaling, of_square, of_steps, of_stands, as_squared, ◌⨾◌};
 ghost use Rattle.conelist.specs.Layout.{place_of};

@@ -1,5 +1,7 @@
 // A program's own row of cones: an array of records in a local, of which the first so many are lent as the list (document 01, "The list and its
 // buffers"). Ported from nothing. The array has room for one cone more than a list may have.
+#![tactic(auto)]
+
 ghost use Rattle.std.specs.Prelude.{◌≡◌, take};
 ghost use Rattle.answers.specs.Outcome.{tells, of_steps, of_scalings, ◌⨾◌};
 ghost use Rattle.conelist.specs.Layout.{place_of};

@@ -1,5 +1,7 @@
 // A cone's mark (document 02, item 4): a small whole number for each cone, beside η and d. 0 is Fresh, 1 Identity, 2 Scaled, and any other counts as
 // Fresh. Which calls an unfit mark refuses, with 8, behind all other refusals; and how a scaling's answer sets it. Of our own; nothing is ported.
+#![tactic(auto)]
+
 ghost use Rattle.std.specs.Prelude.{◌<◌, ◌≡◌, cond, length, get_or, set};
 ghost use Rattle.answers.specs.Refusal.{◌⊳◌, unlike};
 ghost use Rattle.conelist.specs.Layout.{spot_of};

@@ -1,6 +1,8 @@
 // What bench/ and compare/ call of the layers below the public calls: the root, the plain root, and
 // two vector helpers, exported to C. Of our own; nothing is ported. Each is total: where lengths differ it
 // writes nothing.
+#![tactic(auto)]
+
 ghost use Rattle.std.specs.Prelude.{◌≡◌, true, false, length};
 ghost use Rattle.std.specs.Float.{nan};
 ghost use Rattle.root.specs.Root.{root};

@@ -1,5 +1,7 @@
 // The shift in the combined step, of the nonnegative cone (source document 002, lines 53 to 84): the bare call, and behind it the kernel
 // that it calls once nothing is refused. step_z and step_s are overwritten, and shift is the workspace.
+#![tactic(auto)]
+
 ghost use Rattle.std.specs.Prelude.{◌≡◌, [], ◌∷◌, length};
 ghost use Rattle.answers.specs.Refusal.{Fit};
 ghost use Rattle.answers.specs.Outcome.{tells, of_answer, ◌⨾◌};

@@ -1,5 +1,7 @@
 // The nonnegative cone (source document 001, nonnegativecone.rs): identity scaling. The bare call, and behind it the kernel that it calls
 // once nothing is refused.
+#![tactic(auto)]
+
 ghost use Rattle.std.specs.Prelude.{◌≡◌, true, length};
 ghost use Rattle.answers.specs.Outcome.{tells, of_answer, ◌⨾◌};
 ghost use Rattle.nn_units.specs.Units.{nonneg_unit};

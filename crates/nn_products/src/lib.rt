@@ -1,5 +1,7 @@
 // The nonnegative cone (source document 001, nonnegativecone.rs): mul_W and mul_Winv. The bare calls, and behind each the kernel that it
 // calls once nothing is refused.
+#![tactic(auto)]
+
 ghost use Rattle.std.specs.Prelude.{◌≡◌, [], ◌∷◌, length};
 ghost use Rattle.answers.specs.Refusal.{Fit};
 ghost use Rattle.answers.specs.Outcome.{tells, of_answer, ◌⨾◌};

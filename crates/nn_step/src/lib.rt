@@ -1,5 +1,7 @@
 // The nonnegative cone (source document 001, nonnegativecone.rs): step_length, and the step of one side. The bare calls, and behind
 // each the kernel that it calls once nothing is refused.
+#![tactic(auto)]
+
 ghost use Rattle.std.specs.Prelude.{◌≡◌, [], ◌∷◌, length};
 ghost use Rattle.extrema.specs.Extrema.{least_of};
 ghost use Rattle.answers.specs.Refusal.{Fit};

@@ -1,5 +1,7 @@
 // The nonnegative cone (source document 001, nonnegativecone.rs): margins, unit shift and unit initialisation. The bare calls, and behind
 // each the kernel that it calls once nothing is refused.
+#![tactic(auto)]
+
 ghost use Rattle.std.specs.Prelude.{◌≡◌, true, length};
 ghost use Rattle.answers.specs.Outcome.{gives, of_margins, tells, of_answer, ◌⨾◌};
 ghost use Rattle.nn_units.specs.Units.{nonneg_margins, nonneg_shift, nonneg_unit, nn_margins, nn_scaled_unit_shift, nn_unit_initialization};

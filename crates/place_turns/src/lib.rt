@@ -1,5 +1,7 @@
 // The turns of the walk that finds a cone's place (document 01, "The list and its buffers" and "Refusal numbers"): before the first record, over
 // one record, which is checked, and behind the last. Ported from nothing: the crate has no list of its own.
+#![tactic(auto)]
+
 ghost use Rattle.std.specs.Prelude.{◌≡◌};
 ghost use Rattle.conelist.specs.Layout.{bad_record, alone};
 ghost use Rattle.place_turns.specs.Walk.{place_opening, place_further, place_closing, Going};

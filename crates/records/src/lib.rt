@@ -1,4 +1,6 @@
 // A row of cones as C has it: three numbers a record, the cone's start, its kind and its dimension. Of our own; nothing is ported.
+#![tactic(auto)]
+
 ghost use Rattle.std.specs.Prelude.{◌≡◌};
 ghost use Rattle.conelist.specs.Layout.{place_of};
 ghost use Rattle.records.specs.Record.{kind_of, cone_of, cones};

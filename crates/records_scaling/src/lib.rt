@@ -1,4 +1,6 @@
 // The scaling of a whole list (document 02, item 1) over a row of cones as C has it. Of our own; nothing is ported.
+#![tactic(auto)]
+
 ghost use Rattle.std.specs.Prelude.{◌≡◌};
 ghost use Rattle.answers.specs.Outcome.{tells, of_scalings, ◌⨾◌};
 ghost use Rattle.whole_scaling.specs.List.{list_update_scaling};

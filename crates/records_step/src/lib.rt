@@ -1,4 +1,6 @@
 // The list step (document 01, "Nonnegative rules") over a row of cones as C has it, in one walk. Of our own; nothing is ported.
+#![tactic(auto)]
+
 ghost use Rattle.std.specs.Prelude.{◌≡◌};
 ghost use Rattle.answers.specs.Outcome.{tells, of_steps};
 ghost use Rattle.whole_step.specs.List.{list_step_length};

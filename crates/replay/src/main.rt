@@ -1,6 +1,8 @@
 // Replays recorded cases: reads them from standard input, one to a line, and writes each call's answer and what its slices hold then. A
 // line that is damaged gets a line that says so. docs/CASES.md has the format; compare/cases writes the cases beside this folder, with the
 // answers of the crate that was ported, but for the step that document 02, item 3, mends. Of our own; nothing is ported.
+#![tactic(auto)]
+
 use calls::Case;
 use cases::Line;
 

@@ -1,6 +1,8 @@
 // Each call over a lent row of cones, run once: the program lends a row of its own (`local_calls`), three cones of which the first is
 // nonnegative, the second dense and the third sparse. A line is the call, the cone, the answer and all that the call left in each buffer that
 // it may write. Of our own; nothing is ported.
+#![tactic(auto)]
+
 use answers::{Answer, Margins, Row, Scaling, Standing, Stands, Steps};
 use conelist::{Cone, Kind};
 

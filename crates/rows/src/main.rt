@@ -1,6 +1,8 @@
 // Rows of cones that the program makes itself, and what calls on them come to: where a row is taken and where it is refused, each buffer one
 // number too short and too long, the limits of a step, the square block, the step and the scaling over a whole list, and which marks refuse which calls
 // (document 01, "Refusal numbers"; document 02, items 1 and 4). Of our own; nothing is ported.
+#![tactic(auto)]
+
 ghost use Rattle.std.specs.Prelude.{◌≤◌, ◌+◌};
 
 use answers::{Answer, Margins, Scaling, Scalings, Steps};

@@ -2,6 +2,8 @@
 //
 // No contract can say what is written. So how a double is told is a value, which `spell` gives with
 // its promise; a function that prints promises no more than that it ends.
+#![tactic(auto)]
+
 ghost use Rattle.std.specs.Prelude.{◌≡◌, from_bits};
 ghost use Rattle.std.specs.Float.{binary64};
 ghost use Rattle.show.specs.Spelling.{stands};

@@ -1,5 +1,7 @@
 // The second-order cone's block hs_of (source document 000, lines 217 to 246), packed: the bare call, and behind it the kernel that it calls
 // once nothing is refused.
+#![tactic(auto)]
+
 ghost use Rattle.std.specs.Prelude.{◌≡◌, ◌+◌, ◌*◌, ◌/◌, ◌≤◌, ◌<◌, length};
 ghost use Rattle.vecmath.specs.Double.{◌⊗◌};
 ghost use Rattle.vecmath.specs.Vector.{each};

@@ -1,5 +1,7 @@
 // The second-order cone's identity scaling (source document 000, lines 121 to 132). The bare call, and behind it the kernel that it calls
 // once nothing is refused.
+#![tactic(auto)]
+
 ghost use Rattle.std.specs.Prelude.{◌≡◌, [], ◌∷◌, length};
 ghost use Rattle.tails.specs.Tail.{leading};
 ghost use Rattle.answers.specs.Refusal.{Fit};

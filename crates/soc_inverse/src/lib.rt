@@ -1,5 +1,7 @@
 // The inverse of the second-order cone's Jordan product, and the same by lambda (source document 000, lines 325 to 327, 351 to 353 and 369 to
 // 382): the bare calls, and behind each the kernel that it calls once nothing is refused.
+#![tactic(auto)]
+
 ghost use Rattle.std.specs.Prelude.{◌≡◌, [], ◌∷◌, length};
 ghost use Rattle.answers.specs.Refusal.{Fit};
 ghost use Rattle.answers.specs.Outcome.{tells, of_answer, ◌⨾◌};

@@ -1,5 +1,7 @@
 // The second-order cone's product with Hs (source document 000, lines 248 to 256): the bare call, and behind it the kernel that it calls
 // once nothing is refused.
+#![tactic(auto)]
+
 ghost use Rattle.std.specs.Prelude.{◌≡◌, [], ◌∷◌, length};
 ghost use Rattle.answers.specs.Refusal.{Fit};
 ghost use Rattle.answers.specs.Outcome.{tells, of_answer, ◌⨾◌};

@@ -1,5 +1,7 @@
 // The second-order cone's offset of Δs from Δz (source document 000, lines 266 to 287): the bare call, and behind it the kernel that it
 // calls once nothing is refused.
+#![tactic(auto)]
+
 ghost use Rattle.std.specs.Prelude.{◌≡◌, [], ◌∷◌, ◌≤◌, length};
 ghost use Rattle.vecmath.specs.Double.{◌!◌};
 ghost use Rattle.tails.specs.Tail.{tail};

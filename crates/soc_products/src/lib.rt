@@ -1,5 +1,7 @@
 // The second-order cone's products with W and its inverse (source document 000, lines 504 to 530): the bare calls, and behind each the
 // kernel that it calls once nothing is refused.
+#![tactic(auto)]
+
 ghost use Rattle.std.specs.Prelude.{◌≡◌, [], ◌∷◌, length};
 ghost use Rattle.answers.specs.Refusal.{Fit};
 ghost use Rattle.answers.specs.Outcome.{tells, of_answer, ◌⨾◌};

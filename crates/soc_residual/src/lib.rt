@@ -1,5 +1,7 @@
 // The second-order cone's residuals and root scale (source document 000, lines 388 to 417): the bare calls, and behind each the kernel
 // that it calls once nothing is refused.
+#![tactic(auto)]
+
 ghost use Rattle.std.specs.Prelude.{◌≡◌, [], ◌∷◌, length};
 ghost use Rattle.answers.specs.Refusal.{Fit};
 ghost use Rattle.answers.specs.Outcome.{tells, of_number};

@@ -1,5 +1,7 @@
 // The second-order cone's scaling (source document 000, lines 134 to 211): `update_scaling`, which writes nothing where it answers false
 // (document 02, item 4). The bare call, and behind it the kernel that it calls once nothing is refused.
+#![tactic(auto)]
+
 ghost use Rattle.std.specs.Prelude.{◌≡◌, [], ◌∷◌, length};
 ghost use Rattle.answers.specs.Refusal.{Fit};
 ghost use Rattle.answers.specs.Outcome.{truth, tells, of_scaling};

@@ -1,4 +1,6 @@
 // The terms of the second-order cone's sparse expansion (source document 000, lines 187 to 207). The caller has checked the lengths.
+#![tactic(auto)]
+
 ghost use Rattle.std.specs.Prelude.{◌≡◌, cond, [], ◌∷◌, length};
 ghost use Rattle.vecmath.specs.Double.{◌⊘◌, 𝟏};
 ghost use Rattle.vecmath.specs.Vector.{sumsq};

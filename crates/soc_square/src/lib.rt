@@ -1,5 +1,7 @@
 // The second-order cone's block Hs as a square matrix (document 01, "Forms by place"; source document 000, lines 217 to 246): the bare
 // call, and behind it the kernel that it calls once nothing is refused.
+#![tactic(auto)]
+
 ghost use Rattle.std.specs.Prelude.{◌≡◌, map, ◌*◌, ◌<◌};
 ghost use Rattle.vecmath.specs.Vector.{each};
 ghost use Rattle.answers.specs.Outcome.{as_squared, of_square, no_matrix};

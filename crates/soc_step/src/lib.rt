@@ -1,5 +1,7 @@
 // The second-order cone's step (source document 000, lines 289 to 302 and 421 to 495), mended along a direction of residual 0 (document 02,
 // item 3): the bare calls, and behind them the kernel.
+#![tactic(auto)]
+
 ghost use Rattle.std.specs.Prelude.{◌≡◌, [], ◌∷◌, length};
 ghost use Rattle.extrema.specs.Extrema.{least_of};
 ghost use Rattle.answers.specs.Refusal.{Fit};

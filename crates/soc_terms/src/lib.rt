@@ -1,6 +1,8 @@
 // What a scaling of the second-order cone computes (source document 000, lines 158 to 184): the vector w and its norming, and the scaling
 // point lambda. The root scale of w is found before w is written, so that a late false changes nothing (document 02, item 4). The caller
 // has checked the lengths.
+#![tactic(auto)]
+
 ghost use Rattle.std.specs.Prelude.{◌≡◌, [], ◌∷◌, length};
 ghost use Rattle.vecmath.specs.Vector.{sumsq};
 ghost use Rattle.tails.specs.Tail.{tail};

@@ -1,5 +1,7 @@
 // Where a point stands towards its cone (document 01, "Standing"; ours, beside `update_scaling`, whose answer stays as ported): the bare
 // calls of both kinds, and behind each the kernel that it calls once nothing is refused.
+#![tactic(auto)]
+
 ghost use Rattle.std.specs.Prelude.{◌≡◌, [], length};
 ghost use Rattle.std.specs.Float.Ieee.{is_nan, lt, eq};
 ghost use Rattle.vecmath.specs.Double.{𝟎};

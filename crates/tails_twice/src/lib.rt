@@ -1,5 +1,7 @@
 // Two axpby one after the other, in one pass, over entries from 1 on, which are lent further as a part (document 01, "Numbers"): what the products
 // with W and its inverse do to the tail of y. Entry 0 is kept.
+#![tactic(auto)]
+
 ghost use Rattle.std.specs.Prelude.{◌≡◌, ◌∷◌, ◌≤◌, length};
 ghost use Rattle.vecmath.specs.Double.{𝟏, ◌!◌};
 ghost use Rattle.vecmath.specs.Vector.{axpby};

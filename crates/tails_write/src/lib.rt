@@ -1,5 +1,7 @@
 // The vector helpers (document 01, "Numbers") that write entries from 1 on, which are lent further as a part. A written slice keeps
 // entry 0, which `set_first` alone writes.
+#![tactic(auto)]
+
 ghost use Rattle.std.specs.Prelude.{◌≡◌, ◌∷◌, ◌≤◌, length};
 ghost use Rattle.vecmath.specs.Double.{◌!◌};
 ghost use Rattle.vecmath.specs.Vector.{axpby, scale_of};

@@ -1,4 +1,6 @@
 // The vector helpers (document 01, "Numbers") that combine two whole slices, entry by entry. The caller owes equal lengths.
+#![tactic(auto)]
+
 ghost use Rattle.std.specs.Prelude.{◌≡◌, length};
 ghost use Rattle.vecmath.specs.Vector.{axpby};
 

@@ -1,4 +1,6 @@
 // The vector helpers (document 01, "Numbers") that scale and translate a whole slice, entry by entry.
+#![tactic(auto)]
+
 ghost use Rattle.std.specs.Prelude.{◌≡◌};
 ghost use Rattle.vecmath.specs.Vector.{scale_of, translate};
 

@@ -1,4 +1,6 @@
 // Products and quotients of two whole slices, entry by entry (document 01, "Numbers"). The caller owes equal lengths.
+#![tactic(auto)]
+
 ghost use Rattle.std.specs.Prelude.{◌≡◌, length};
 ghost use Rattle.vecmath.specs.Vector.{products, quotients};
 

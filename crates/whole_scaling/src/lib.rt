@@ -1,5 +1,7 @@
 // The scaling of a whole list (document 02, item 1): `update_scaling` on cone 0, 1, .., up to and including the first that answers false. Ported from
 // nothing: the crate's list of cones is not in the text given. The row is walked twice: to refuse before anything is written, and to write.
+#![tactic(auto)]
+
 ghost use Rattle.std.specs.Prelude.{◌≡◌, cond, eqb};
 ghost use Rattle.answers.specs.Outcome.{tells, of_scaling, of_scalings, ◌⨾◌};
 ghost use Rattle.whole_scaling.specs.List.{list_update_scaling};

@@ -1,6 +1,8 @@
 // The list step (document 01, "Nonnegative rules": "Over a list each cone gets the caller's αmax, and each side's least is the answer"). Ported
 // from nothing: the crate's list of cones is not in the text given. The row is walked once: a record is checked, and its cone's steps are taken,
 // in one turn; on a refusal the numbers are thrown away.
+#![tactic(auto)]
+
 ghost use Rattle.std.specs.Prelude.{◌≡◌, ◌+◌, ◌≤◌, length};
 ghost use Rattle.answers.specs.Refusal.{◌⊳◌, unlike, bad_limit};
 ghost use Rattle.answers.specs.Outcome.{tells, of_steps};

@@ -1,5 +1,7 @@
 // The product of two words of 64 digits, in two words. Of our own; nothing is ported. There is no wider number in the language: the halves of the
 // factors are multiplied and added up, and on x86-64 and on Arm the compiler makes one instruction of each half.
+#![tactic(auto)]
+
 ghost use Rattle.std.specs.Prelude.{◌≡◌, ◌*◌, ◌/◌, ◌%◌, ◌^◌};
 
 // The upper half.

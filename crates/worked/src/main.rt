@@ -1,6 +1,8 @@
 // Document 01's small examples, as document 02 changes them, one to a line, with what the code gives. Of
 // our own; nothing is ported. A whole number is told by its digits, any other double by its bits. The
 // lines that document 01 marks with T are proved too: proofs/Worked.antt.
+#![tactic(auto)]
+
 use answers::{Answer, Number, Scaling, Standing, Stands, Step};
 
 fn line_root(of: &[u8], x: f64) {
