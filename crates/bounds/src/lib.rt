@@ -16,7 +16,7 @@ fn lower(m: f64, x: f64) -> f64
 }
 
 // What the nonnegative cone's margins are.
-#[derive(Drop)]
+#[derive(Clone, Copy)]
 pub struct LeastSum {
     pub least: f64,
     pub sum: f64,

@@ -8,13 +8,13 @@ ghost use Rattle.conelist.specs.Layout.{dim, least_dim, block_dim, carried, coun
 
 // ---- the records
 
-#[derive(Drop)]
+#[derive(Clone, Copy)]
 pub enum Kind {
     Nonnegative(usize),
     SecondOrder(usize),
 }
 
-#[derive(Drop)]
+#[derive(Clone, Copy)]
 pub struct Cone {
     pub start: usize,
     pub kind: Kind,
@@ -23,7 +23,7 @@ pub struct Cone {
 // Where a cone lies: the refusal that finding it met (0: none), its index, its start and kind, and where its block begins; then how many
 // entries, cones and block numbers the list has. `conewalk::place_of` makes one. Any other is refused with 4 as far as that can be told
 // (`misplaced`), and is else taken at its word.
-#[derive(Drop)]
+#[derive(Clone, Copy)]
 pub struct Place {
     pub no: u8,
     pub index: usize,

@@ -4,7 +4,7 @@
 #![tactic(auto)]
 
 // The line that is .0 + .1 * x at x.
-#[derive(Drop)]
+#[derive(Clone, Copy)]
 pub struct Line(pub f64, pub f64);
 
 // Near 1 / (2√x) on the k-th of 64 parts, the first 32 of which cut [1/2, 1) and the others [1, 2): within 2^-14.3 of it. A match and not an array,

@@ -33,7 +33,7 @@ pub fn second_order(z: &[f64]) -> Standing
 }
 
 // Which of the three there is among the entries, in one pass.
-#[derive(Drop)]
+#[derive(Clone, Copy)]
 struct Found {
     nan: bool,
     below: bool,

@@ -12,7 +12,7 @@ use conelist::{Cone, Kind, Place};
 
 // A walk on its way: the refusal that it met (0: none), and whether it is over, by that or by a cone that answered false; the next cone's index, start
 // and block, or those of the cone that answered false; and how many entries, cones and block numbers the list has.
-#[derive(Drop)]
+#[derive(Clone, Copy)]
 pub struct Walk {
     pub no: u8,
     pub ended: bool,

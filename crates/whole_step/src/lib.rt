@@ -14,7 +14,7 @@ use answers::{StepPair, Steps};
 use conelist::{Cone, Kind};
 
 // A walk on its way: the refusal that it met (0: none), the entries behind it, and each side's least so far.
-#[derive(Drop)]
+#[derive(Clone, Copy)]
 pub struct Walk {
     pub no: u8,
     pub total: usize,
