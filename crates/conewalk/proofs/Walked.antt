@@ -7,7 +7,7 @@ use mathlib.Core.Bool.{Bool, true, false, cond}
 use mathlib.Core.List.{List, [], ◌∷◌}
 use borrow.Author.Tests.{ltb-true, ltb-false, eq-eqb, ne_eqb}
 use lib.Dec.{ltb, eqb}
-use lib.ListN.{length, get_or}
+use lib.ListN.{length}
 use Rattle.answers.specs.Refusal.{◌⊳◌}
 use Rattle.answers.proofs.Laws.{clear_both}
 use Rattle.conelist.specs.declared.Kind.{Kind}
@@ -15,7 +15,7 @@ use Rattle.conelist.specs.declared.Kind.TheVariants.{Nonnegative}
 use Rattle.conelist.specs.declared.Cone.{Cone}
 use Rattle.conelist.specs.declared.Place.{Place}
 use Rattle.conelist.specs.Layout.{dim, block_dim, kind_of_cone, sum_before, bad_record, bad_records, alone, found_of, place_of}
-use Rattle.walks.specs.Records.{no_cone, over_records}
+use Rattle.walks.specs.Records.{over_records}
 use Rattle.place_turns.specs.Walk.{place_opening, place_seen, place_further, place_closing, Going}
 use Rattle.conelist.proofs.Blocks.{block_most}
 use Rattle.place_turns.proofs.Records.{good}
@@ -135,36 +135,7 @@ walked cs k = go (ltb 256 (length cs)) (bad_records 0 cs) (ltb k (length cs)) re
         let l = ltb-false k C g in
         rw (unmet k E C B cs 0 (Nonnegative 0) 0 0 0 0 f (omega arith) (omega arith) (omega arith) (λ j i h. omega arith), g)
 
--- ---- what tools/proof takes from here for `place_of`
+-- ---- a turn may be made
 
-abbrev pub place_of_holds : List Cone → ℕ → ℕ → Place → Type 0
-place_of_holds cs k = Along
-
-pub place_of_start : (cs : List Cone) (k : ℕ) → Along 0 (place_opening (length cs) k)
-place_of_start cs k = along_start (length cs) k
-
-pub place_of_turn : (cs : List Cone) (k i : ℕ) (p : Place) → i < length cs → Along i p → Along (i + 1) (place_further p (get_or cs i no_cone))
-place_of_turn cs k i p l h = along_step i p (get_or cs i no_cone) h
-
-pub place_of_asks : (cs : List Cone) (k : ℕ) → length cs < 2 ^ 64 → (i : ℕ) (p : Place) → i < length cs → Along i p → Going p
-place_of_asks cs k few i p l h = record { counted = omega (arith, h.counted); held = h.held; few = h.few }
-
-pub place_of_closes : (cs : List Cone) (k : ℕ) {r : Place} → r ≡ place_closing (over_records place_further cs (place_opening (length cs) k)) → r ≡ place_of cs k
-place_of_closes cs k e = e ∙ walked cs k
-
--- ---- and for `first_place`: the same, of cone 0
-
-abbrev pub first_place_holds : List Cone → ℕ → Place → Type 0
-first_place_holds cs = place_of_holds cs 0
-
-pub first_place_start : (cs : List Cone) → Along 0 (place_opening (length cs) 0)
-first_place_start cs = place_of_start cs 0
-
-pub first_place_turn : (cs : List Cone) (i : ℕ) (p : Place) → i < length cs → Along i p → Along (i + 1) (place_further p (get_or cs i no_cone))
-first_place_turn cs = place_of_turn cs 0
-
-pub first_place_asks : (cs : List Cone) → length cs < 2 ^ 64 → (i : ℕ) (p : Place) → i < length cs → Along i p → Going p
-first_place_asks cs = place_of_asks cs 0
-
-pub first_place_closes : (cs : List Cone) {r : Place} → r ≡ place_closing (over_records place_further cs (place_opening (length cs) 0)) → r ≡ place_of cs 0
-first_place_closes cs e = place_of_closes cs 0 e
+pub going : (cs : List Cone) (i : ℕ) (p : Place) → length cs < 2 ^ 64 → i < length cs → Along i p → Going p
+going cs i p few l h = record { counted = omega (arith, h.counted); held = h.held; few = h.few }

@@ -1,0 +1,12 @@
+-- `nn_scaling::nn_update_scaling` meets its contract. Assumes nothing.
+use Rattle.answers.proofs.Laws.{fit, outcomes}
+use Rattle.nn_scaling.proofs.nn_update_scaling.Goals as goal
+
+pub returns-then-no-ne0 : goal.returns-then-no-ne0
+returns-then-no-ne0 c = search outcomes
+
+pub update_scaling-requires : goal.update_scaling-requires
+update_scaling-requires c = search fit
+
+pub returns : goal.returns
+returns c = rw c.update_scaling.ensures.value (search outcomes)

@@ -1,0 +1,16 @@
+-- `vecaxpby::waxpby` meets its contract. Assumes nothing.
+use Rattle.vecmath.specs.Vector.{axpby}
+use Rattle.vecmath.proofs.Loops.{loops}
+use Rattle.vecaxpby.proofs.waxpby.Goals as goal
+
+pub loop-i-init : goal.loop-i-init
+unfolding axpby
+loop-i-init c = search loops
+
+pub loop-i-preserved : goal.loop-i-preserved
+unfolding axpby
+loop-i-preserved c = search loops
+
+pub returns : goal.returns
+unfolding axpby
+returns c = search loops

@@ -1,0 +1,16 @@
+-- `vectimes::divide` meets its contract. Assumes nothing.
+use Rattle.vecmath.specs.Vector.{quotients}
+use Rattle.vecmath.proofs.Loops.{loops}
+use Rattle.vectimes.proofs.divide.Goals as goal
+
+pub loop-i-init : goal.loop-i-init
+unfolding quotients
+loop-i-init c = search loops
+
+pub loop-i-preserved : goal.loop-i-preserved
+unfolding quotients
+loop-i-preserved c = search loops
+
+pub returns : goal.returns
+unfolding quotients
+returns c = search loops

@@ -1,0 +1,16 @@
+-- `vectimes::multiply` meets its contract. Assumes nothing.
+use Rattle.vecmath.specs.Vector.{products}
+use Rattle.vecmath.proofs.Loops.{loops}
+use Rattle.vectimes.proofs.multiply.Goals as goal
+
+pub loop-i-init : goal.loop-i-init
+unfolding products
+loop-i-init c = search loops
+
+pub loop-i-preserved : goal.loop-i-preserved
+unfolding products
+loop-i-preserved c = search loops
+
+pub returns : goal.returns
+unfolding products
+returns c = search loops
