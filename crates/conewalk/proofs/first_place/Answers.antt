@@ -14,7 +14,7 @@ place_further-p-requires c = going _ _ _ (omega arith) c.loop-j-test.true c.loop
 pub loop-j-preserved : goal.loop-j-preserved
 loop-j-preserved c =
     rw c.place_further-p.ensures
-    (ap place_closing (sym (turned place_further _ _ _ c.loop-j-test.true)) ∙ c.loop-j.invariant.0, along_step _ _ _ c.loop-j.jnvariant.1)
+    (ap place_closing (sym (turned place_further _ _ _ c.loop-j-test.true)) ∙ c.loop-j.invariant.0, along_step _ _ _ c.loop-j.invariant.1)
 
 pub returns : goal.returns
 returns c =
