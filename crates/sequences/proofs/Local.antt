@@ -169,8 +169,8 @@ module _ (list : List Cone) where
     ins σ = fetch σ d.reads t.reads
 
     -- all that it does, from what it sees: the lengths and the cone's own ranges
-    abbrev no : Store → ℕ
-    no σ = refusal_of p d (lengths_of d.writes (outs σ)) (lengths_of d.reads (ins σ)) (owns p d.writes (outs σ)) (owns p d.reads (ins σ))
+    abbrev number : Store → ℕ
+    number σ = refusal_of p d (lengths_of d.writes (outs σ)) (lengths_of d.reads (ins σ)) (owns p d.writes (outs σ)) (owns p d.reads (ins σ))
 
     abbrev does : Store → Gives d.Replies (Tuple Range d.writes)
     does σ = ruled d p.kind (owns p d.writes (outs σ)) (owns p d.reads (ins σ))
@@ -184,7 +184,7 @@ module _ (list : List Cone) where
     left n g σ a = pick_from a d.writes t.writes (call_of n g.reply (outs σ) (backs_of p d.writes (outs σ) g.news)).holds (σ a)
 
     -- where it is not refused: its cone is in the list, what it is lent for writing has the right lengths, and so have the ranges that its rule gives
-    clear : (σ : Store) → no σ ≡ 0 → (bad_place list t.cone ≡ 0) × Checked p σ d.writes t.writes × Fitted p.kind d.writes (does σ).news
+    clear : (σ : Store) → number σ ≡ 0 → (bad_place list t.cone ≡ 0) × Checked p σ d.writes t.writes × Fitted p.kind d.writes (does σ).news
     clear σ e =
         let ms : List (ℕ × ℕ) = tests_of p d.writes (lengths_of d.writes (outs σ)) in
         let ns : List (ℕ × ℕ) = tests_of p d.reads (lengths_of d.reads (ins σ)) in
@@ -195,11 +195,11 @@ module _ (list : List Cone) where
 
     settled : (σ τ : Store) (a : Name) (P : Full a → Full a → Type 0) → P (σ a) (τ a)
         → ((new : Range (form a)) → Fills p (form a) (σ a) new → P (back_of p (form a) (σ a) new) (back_of p (form a) (τ a) new))
-        → P (after_of p t σ a) (left (no σ) (does σ) τ a)
+        → P (after_of p t σ a) (left (number σ) (does σ) τ a)
     unfolding call_of
-    settled σ τ a P kept replaced = go (no σ) refl
+    settled σ τ a P kept replaced = go (number σ) refl
       where
-        go : (n : ℕ) → no σ ≡ n → P (left n (does σ) σ a) (left n (does σ) τ a)
+        go : (n : ℕ) → number σ ≡ n → P (left n (does σ) σ a) (left n (does σ) τ a)
         go zero e =
             let c = clear σ e in
             picked p σ τ a P kept
@@ -208,7 +208,7 @@ module _ (list : List Cone) where
         go (suc n) e = subst₂ P (sym (unpicked σ a d.writes t.writes)) (sym (unpicked τ a d.writes t.writes)) kept
 
     -- the ranges that its rule gives are then there
-    there : (σ : Store) → no σ ≡ 0 → owns p d.writes (backs_of p d.writes (outs σ) (does σ).news) ≡ (does σ).news
+    there : (σ : Store) → number σ ≡ 0 → owns p d.writes (backs_of p d.writes (outs σ) (does σ).news) ≡ (does σ).news
     there σ e = let c = clear σ e in go c.0 d.writes t.writes (does σ).news c.1 c.2
       where
         go : bad_place list t.cone ≡ 0 → (bs : List Buffer) (ns : Numbers bs) (news : Tuple Range bs) → Checked p σ bs ns → Fitted p.kind bs news
@@ -240,7 +240,7 @@ module _ (list : List Cone) where
       same_does : does σ ≡ does τ
       same_does = ap₂ (ruled d p.kind) (same_owns d.writes t.writes) (same_owns d.reads t.reads)
 
-      same_no : no σ ≡ no τ
+      same_no : number σ ≡ number τ
       same_no = λ i. refusal_of p d (same_lengths d.writes t.writes i) (same_lengths d.reads t.reads i) (same_owns d.writes t.writes i) (same_owns d.reads t.reads i)
 
       -- what a call answers and leaves follows from what its cone sees
@@ -278,12 +278,12 @@ module _ (list : List Cone) (t : Task) (keeps : Keeps t.deed) (σ : Store) where
 
   laid : Ending (laid_at list t.cone)
   unfolding call_of
-  laid = go (no list t keeps σ) refl
+  laid = go (number list t keeps σ) refl
     where
       comes : ℕ → Outcome t.deed.Replies (Tuple Whole t.deed.writes)
       comes n = call_of n (does list t keeps σ).reply (outs list t keeps σ) (backs_of (laid_at list t.cone) t.deed.writes (outs list t keeps σ) (does list t keeps σ).news)
 
-      go : (n : ℕ) → no list t keeps σ ≡ n → Ending (laid_at list t.cone)
+      go : (n : ℕ) → number list t keeps σ ≡ n → Ending (laid_at list t.cone)
       go zero e =
           let c : comes_to (laid_at list t.cone) t σ ≡ comes 0 = ap comes e in
           let holds = ap (λ o. o.holds) c in

@@ -1,0 +1,6 @@
+-- `tails::norm_shifted` meets its contract. Assumes nothing.
+use Rattle.tails.proofs.Laws.{part_tail}
+use Rattle.tails.proofs.norm_shifted.Goals as goal
+
+pub returns : goal.returns
+returns c = simp part_tail at c.norm_shifted.ensures

@@ -1,0 +1,6 @@
+-- `tails::sumsq` meets its contract. Assumes nothing.
+use Rattle.tails.proofs.Laws.{part_tail}
+use Rattle.tails.proofs.sumsq.Goals as goal
+
+pub returns : goal.returns
+returns c = simp part_tail at c.sumsq.ensures
