@@ -146,6 +146,7 @@ module _ (cs : List Cone) (dz ds z s : List Float) (αmax : Float) where
           let l = h.least (h.refusal ∙ bad ∙ r.0) (omega (arith, f.0), omega (arith, f.1.0), omega (arith, f.1.1.0), omega (arith, f.1.1.1.0)) in
           lengths_are (l.0 ∙ sym (list_loop least_of αmax (step_of_cone least_of cs z dz) (length cs))) (l.1 ∙ sym (list_loop least_of αmax (step_of_cone least_of cs s ds) (length cs))))
 
--- what tools/proof takes from here for `list_step_length`
-pub list_step_length_closes : (cs : List Cone) (dz ds z s : List Float) (αmax : Float) {came : Came 0 0} → came ≡ step_closing (over_records (λ w c. step_further w c dz ds z s αmax) cs (step_opening (length cs) αmax)) dz ds z s αmax → came ≡ list_step_length cs dz ds z s αmax
-list_step_length_closes cs dz ds z s αmax e = e ∙ ap (λ (w : Walk). step_closing w dz ds z s αmax) (by_index (λ w c. step_further w c dz ds z s αmax) cs (step_opening (length cs) αmax)) ∙ walked cs dz ds z s αmax
+-- behind its last record the walk comes to the list step
+pub closes : (cs : List Cone) (dz ds z s : List Float) (αmax : Float)
+    → step_closing (over_records (λ w c. step_further w c dz ds z s αmax) cs (step_opening (length cs) αmax)) dz ds z s αmax ≡ list_step_length cs dz ds z s αmax
+closes cs dz ds z s αmax = ap (λ (w : Walk). step_closing w dz ds z s αmax) (by_index (λ w c. step_further w c dz ds z s αmax) cs (step_opening (length cs) αmax)) ∙ walked cs dz ds z s αmax
