@@ -1,0 +1,24 @@
+-- `list_mul_hs::mul_hs_in` meets its contract. Written by tools/surface. Assumes nothing.
+use mathlib.Core.Path.{refl}
+use mathlib.Core.List.{[], ◌∷◌}
+use borrow.Author.Rules.{rules}
+use Rattle.answers.specs.Outcome.{◌⨾◌}
+use Rattle.answers.proofs.Laws.{and_more}
+use Rattle.conelist.proofs.Placed.{lent}
+use Rattle.conecalls.proofs.Ranges.{cuts_fit}
+use Rattle.conecalls.proofs.Return.{backs}
+use Rattle.list_mul_hs.specs.Block.{mul_hs_unmarked}
+use Rattle.list_mul_hs.proofs.mul_hs_in.Goals as goal
+
+pub kind_mul_hs-requires : goal.kind_mul_hs-requires
+kind_mul_hs-requires c =
+    let a = c.args in
+    let same = c.requires.same in
+    cuts_fit a.p _ c.requires.here c.dim.ensures (search rules) a.y.now (a.x.now ∷ a.w.now ∷ []) same.0 (same.1.0, (same.1.1.0, tt))
+
+pub returns : goal.returns
+returns c =
+    let long = c.dim.ensures in
+    let a = c.args in
+    backs a.p long refl mul_hs_unmarked.writes (a.y.now ⨾ tt)
+    (and_more (simp (lent long) at c.kind_mul_hs.ensures) refl)

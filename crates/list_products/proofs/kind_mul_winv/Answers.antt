@@ -1,0 +1,17 @@
+-- `list_products::kind_mul_winv` meets its contract. Written by tools/surface. Assumes nothing.
+use native.Mathlib.Omega.{arith}
+use Rattle.conelist.proofs.Placed.{two_least}
+use Rattle.list_products.specs.Product.{kind_mul_winv}
+use Rattle.list_products.proofs.kind_mul_winv.Goals as goal
+
+pub mul_winv-requires-in-SecondOrder : goal.mul_winv-requires-in-SecondOrder
+unfolding kind_mul_winv
+mul_winv-requires-in-SecondOrder c = omega (arith, two_least)
+
+pub returns-in-Nonnegative : goal.returns-in-Nonnegative
+unfolding kind_mul_winv
+returns-in-Nonnegative c = rw c.in-Nonnegative.is c.mul_winv.ensures
+
+pub returns-in-SecondOrder : goal.returns-in-SecondOrder
+unfolding kind_mul_winv
+returns-in-SecondOrder c = rw c.in-SecondOrder.is c.mul_winv-in-SecondOrder.ensures
