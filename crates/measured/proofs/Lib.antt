@@ -1,2 +1,2 @@
--- `Laws`: of `Fitted`.
+-- `Laws`: of `fitted_of`.
 pub mod Laws

@@ -216,7 +216,7 @@ module _ (list : List Cone) (k : ℕ) where
       go (scaled_last s z l n) = absurd (omega (arith, m, n))
       go (identity_last l n) = l
 
--- ---- the cone that a whole list's scaling names keeps all, as those behind it do (`later-kept`, proofs/Scaled)
+-- ---- the cone that a whole list's scaling names keeps all, as those behind it do (`later_kept`, proofs/Scaled)
 
 orderly : (left k : ℕ) → All Orderly (map scale (counted left k))
 orderly zero k = tt

@@ -69,7 +69,7 @@ abbrev pub names : Request → ℕ
 names r = (task_of r).cone
 
 module _ (list : List Cone) where
-  -- what a call comes to, at the place of the cone that it names: `At (place_of list k) deed` of what its buffers hold, as its contract says
+  -- what a call comes to, at the place of the cone that it names: `comes_at (place_of list k) deed` of what its buffers hold, as its contract says
   abbrev pub meets_of : (r : Request) → Store → Outcome (task_of r).deed.Replies (Tuple Whole (task_of r).deed.writes)
   meets_of r = comes_to (place_of list (names r)) (task_of r)
 

@@ -1,4 +1,4 @@
--- How `conewalk::place_of` goes over the records. That it comes to `PlaceOf` is proved: crates/conewalk/proofs/Walked. Assumes nothing.
+-- How `conewalk::place_of` goes over the records. That it comes to `place_of` is proved: crates/conewalk/proofs/Walked. Assumes nothing.
 use Rattle.std.specs.Prelude.{ℕ, ◌+◌, ◌*◌, ◌≤◌, ◌<◌, ◌^◌, cond, ltb, eqb}
 use Rattle.conelist.specs.declared.Kind.TheVariants.{Nonnegative}
 use Rattle.conelist.specs.declared.Cone.{Cone}

@@ -18,7 +18,7 @@ margin z = z ! 0 ⊖ norm (tail z)
 unfoldable pub unit_shift : List Float → Float → List Float
 unit_shift z α = z ! 0 ⊕ α ∷ tail z
 
--- unit initialisation gives (1, 0, ..): "sets both vectors to +0, then shifts them by 1" comes to that, `unit-leads`, proofs/Laws
+-- unit initialisation gives (1, 0, ..): "sets both vectors to +0, then shifts them by 1" comes to that, `unit_leads`, proofs/Laws
 abbrev pub unit_vector : ℕ → List Float
 unit_vector n = leading n 𝟏
 

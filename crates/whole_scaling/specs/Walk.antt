@@ -1,4 +1,4 @@
--- How `list_update_scaling` goes over the records. That it comes to `ListUpdateScaling` is proved: proofs/Walked. Assumes nothing.
+-- How `list_update_scaling` goes over the records. That it comes to `list_update_scaling` is proved: proofs/Walked. Assumes nothing.
 use Rattle.std.specs.Prelude.{ℕ, ◌+◌, ◌≡◌, Bool, true, false, cond, not, List, eqb, length, Float}
 use Rattle.answers.specs.Refusal.{◌⊳◌, unlike}
 use Rattle.answers.specs.Outcome.{Reply, Scaled, all_true, false_at, Ruling, gives, refuses, Outcome, tells, ◌⨾◌}
