@@ -167,27 +167,3 @@ module _ (s z w lambda u v η d : List Float) (marks : List ℕ) where
       go : (n : ℕ) → number cs ≡ n → ends s z (over_records (turn s z) cs (with (opening cs) held)) ≡ unless n held (singly_of cs s z (length cs) 0 held)
       go zero e = ap (λ walk. ends s z (over_records (turn s z) cs (with walk held))) (opened cs e) ∙ singly cs s z (clear_both (bad_list cs) (five (laid_at cs 0)) e).0 (length cs) 0 (omega arith) held
       go (suc n) e = let f = stopped cs n e in refused s z cs n (opening cs) held f (ended n f)
-
--- ---- what tools/proof takes from here for `scaling_from` and `list_update_scaling`
-
-abbrev pub scaling_from_holds : List Cone → Place → (s z w lambda u v η d : List Float) (marks : List ℕ) → ℕ → Underway → Type 0
-scaling_from_holds cs p s z w lambda u v η d marks i t = Fitting t.0 s z t.1 t.2 t.3 t.4 t.5 t.6 t.7
-
-pub scaling_from_start : (cs : List Cone) (p : Place) (s z w lambda u v η d : List Float) (marks : List ℕ) → Fitting (scaling_opening (length cs) p s z w lambda u v η d marks) s z w lambda u v η d marks
-scaling_from_start cs p s z w lambda u v η d marks = fits_start s z (length cs) p w lambda u v η d marks
-
-pub scaling_from_turn : (cs : List Cone) (p : Place) (s z w lambda u v η d : List Float) (marks : List ℕ) (i : ℕ) (t : Underway) → i < length cs → scaling_from_holds cs p s z w lambda u v η d marks i t → scaling_from_holds cs p s z w lambda u v η d marks (i + 1) (turn s z t (get_or cs i no_cone))
-scaling_from_turn cs p s z w lambda u v η d marks i t l f = fits_turn s z t.0 (get_or cs i no_cone) t.1 t.2 t.3 t.4 t.5 t.6 t.7 f
-
-pub scaling_from_asks : (cs : List Cone) (p : Place) (s z w lambda u v η d : List Float) (marks : List ℕ) → length cs < 2 ^ 64 → (i : ℕ) (t : Underway) → i < length cs → scaling_from_holds cs p s z w lambda u v η d marks i t → scaling_from_holds cs p s z w lambda u v η d marks i t
-scaling_from_asks cs p s z w lambda u v η d marks few i t l f = f
-
-pub scaling_from_closes : (cs : List Cone) (p : Place) (s z w lambda u v η d : List Float) (marks : List ℕ) {ruling : Ruling Scaled}
-    → let all : Underway = over_records (turn s z) cs (with (scaling_opening (length cs) p s z w lambda u v η d marks) (w ⨾ lambda ⨾ u ⨾ v ⨾ η ⨾ d ⨾ marks ⨾ tt)) in
-    ruling ≡ scaling_closing all.0 → as_outcome ruling all ≡ scaling_from cs p s z w lambda u v η d marks
-scaling_from_closes cs p s z w lambda u v η d marks e =
-    let all : Underway = over_records (turn s z) cs (with (scaling_opening (length cs) p s z w lambda u v η d marks) (w ⨾ lambda ⨾ u ⨾ v ⨾ η ⨾ d ⨾ marks ⨾ tt)) in
-    ap (λ r. as_outcome r all) e
-
-pub list_update_scaling_closes : (cs : List Cone) (s z w lambda u v η d : List Float) (marks : List ℕ) {came : Outcome Scaled Written} → came ≡ scaling_from cs (place_of cs 0) s z w lambda u v η d marks → came ≡ list_update_scaling cs s z w lambda u v η d marks
-list_update_scaling_closes cs s z w lambda u v η d marks e = e ∙ walked s z w lambda u v η d marks cs
