@@ -1,0 +1,6 @@
+-- `list_margins::margins_in` meets its contract. Assumes nothing.
+use Rattle.conelist.proofs.Placed.{lent}
+use Rattle.list_margins.proofs.margins_in.Goals as goal
+
+pub returns : goal.returns
+returns c = simp (lent c.dim.ensures) at c.kind_margins.ensures
