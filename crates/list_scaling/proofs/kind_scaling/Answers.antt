@@ -12,7 +12,7 @@ pub returns-in-Nonnegative : goal.returns-in-Nonnegative
 unfolding kind_scaling
 returns-in-Nonnegative c =
     let told = c.update_scaling.ensures in
-    rw (c.in-Nonnegative.is, told.0, told.1.0, told.1.1)
+    rw (c.in-Nonnegative.is, told.value, told.w_after, told.lambda_after)
 
 pub returns-in-SecondOrder : goal.returns-in-SecondOrder
 unfolding kind_scaling

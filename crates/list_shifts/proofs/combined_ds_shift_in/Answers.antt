@@ -10,5 +10,5 @@ pub returns : goal.returns
 returns c =
     let long = c.dim.ensures in
     let a = c.args in
-    backs a.p long refl (combined_ds_shift_unmarked a.sigma-mu).writes (a.shift.now ⨾ a.step-z.now ⨾ a.step-s.now ⨾ tt)
+    backs a.p long refl (combined_ds_shift_unmarked a.sigma_mu).writes (a.shift.now ⨾ a.step_z.now ⨾ a.step_s.now ⨾ tt)
     (simp (lent long) at c.kind_combined_ds_shift.ensures)

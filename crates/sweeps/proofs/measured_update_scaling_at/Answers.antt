@@ -1,0 +1,6 @@
+-- `sweeps::measured_update_scaling_at` meets its contract. Assumes nothing.
+use Rattle.codes.proofs.Laws.{exported}
+use Rattle.sweeps.proofs.measured_update_scaling_at.Goals as goal
+
+pub returns : goal.returns
+returns c = rw (← c.place-p.ensures) (search exported)
