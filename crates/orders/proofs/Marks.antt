@@ -18,7 +18,7 @@ use Rattle.marks.specs.Mark.{identity_mark, scaled_mark, unset}
 use Rattle.conecalls.specs.Deed.{blank, mark, Buffer, per_entry, per_cone, per_block, Whole, Range, Tuple, own_of, back_of, owns, backs_of, Numbers, ruled}
 use Rattle.conecalls.specs.Marked.{append}
 use Rattle.list_identity.specs.Identity.{set_identity_scaling_deed}
-use Rattle.list_scaling.specs.Scaling.{is_true, update_scaling_unmarked, update_scaling_deed as D}
+use Rattle.list_scaling.specs.Scaling.{is_true, update_scaling_unmarked, update_scaling_deed}
 use Rattle.sequences.specs.Local.{Store, fetch, comes_to, after_of}
 use Rattle.sequences.proofs.Local.{outside, left_all, Ending, refusing, giving, ending, same_owns, separate}
 use Rattle.orders.specs.Calls.{set_identity_scaling, update_scaling, deed_of, Request, task_of, names, meets_of, run_all}

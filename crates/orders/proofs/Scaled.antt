@@ -17,7 +17,7 @@ use Rattle.conelist.specs.Layout.{bad_list, bad_place, bad_records, laid_at, fou
 use Rattle.conewalk.proofs.Laid.{spot}
 use Rattle.conecalls.specs.Deed.{real, mark, per_entry, per_cone, per_block, owns, Numbers, lengths_of, tests_of, refusal_of, works, comes}
 use Rattle.conecalls.proofs.Own.{lengths_kept}
-use Rattle.list_scaling.specs.Scaling.{is_true, update_scaling_deed as D, lengths_at}
+use Rattle.list_scaling.specs.Scaling.{is_true, update_scaling_deed, lengths_at}
 use Rattle.sequences.specs.Rearranged.{naming, Ended}
 use Rattle.sequences.specs.Local as local
 use Rattle.sequences.specs.Local.{Name, called, Store, Outside, after_of}

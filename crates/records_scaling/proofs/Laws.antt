@@ -15,7 +15,7 @@ use Rattle.walks.specs.Records.{over_records}
 use Rattle.whole_scaling.specs.List.{list_update_scaling}
 use Rattle.whole_scaling.specs.Walk.{Underway, with, scaling_opening, Fitting, scaling_closing, scaling_turn, as_outcome}
 use Rattle.whole_scaling.proofs.Laws.{fits_start, fits_turn}
-use Rattle.whole_scaling.proofs.Walked.{list_update_scaling_closes}
+use Rattle.whole_scaling.proofs.Walked.{walked}
 use Rattle.records.specs.Record.{cone_of, cones}
 use Rattle.records.proofs.Laws.{Behind, behind_start, behind_turn, behind_end, length_cones}
 
@@ -56,4 +56,6 @@ module _ (list : List (List ℕ)) (s z w lambda u v η d : List Float) (marks : 
   scaling_end {t = t} place begun h l e =
       let opened = begun ∙ ap (from (length list)) place ∙ ap (λ (n : ℕ). from n (place_of (cones list) 0)) (sym (length_cones list)) in
       let whole = behind_end h.behind l ∙ ap (over_records (scaling_turn s z) (cones list)) opened in
-      list_update_scaling_closes (cones list) s z w lambda u v η d marks (ap (λ r. as_outcome r t) e ∙ ap (λ (t : Underway). as_outcome (scaling_closing t.0) t) whole)
+      ap (λ r. as_outcome r t) e
+      ∙ ap (λ (t : Underway). as_outcome (scaling_closing t.0) t) whole
+      ∙ walked s z w lambda u v η d marks (cones list)

@@ -10,7 +10,7 @@ use Rattle.walks.specs.Records.{over_records}
 use Rattle.whole_step.specs.List.{list_step_length}
 use Rattle.whole_step.specs.declared.Walk.{Walk}
 use Rattle.whole_step.specs.Walk.{step_opening, step_further, step_closing}
-use Rattle.whole_step.proofs.Walked.{list_step_length_closes}
+use Rattle.whole_step.proofs.Walked.{closes}
 use Rattle.records.specs.Record.{cones}
 use Rattle.records.proofs.Laws.{Behind, behind_end, length_cones}
 
@@ -23,5 +23,6 @@ module _ (list : List (List ℕ)) (dz ds z s : List Float) (αmax : Float) where
 
   pub step_end : {i : ℕ} {w : Walk} {came : Came 0 0} → StepBehind i w → length list ≤ i → came ≡ step_closing w dz ds z s αmax → came ≡ list_step_length (cones list) dz ds z s αmax
   step_end h l e =
-      list_step_length_closes (cones list) dz ds z s αmax (e
-      ∙ ap (λ (w : Walk). step_closing w dz ds z s αmax) (behind_end h l ∙ ap (λ (n : ℕ). over_records turn (cones list) (step_opening n αmax)) (sym (length_cones list))))
+      e
+      ∙ ap (λ (w : Walk). step_closing w dz ds z s αmax) (behind_end h l ∙ ap (λ (n : ℕ). over_records turn (cones list) (step_opening n αmax)) (sym (length_cones list)))
+      ∙ closes (cones list) dz ds z s αmax

@@ -18,7 +18,7 @@ use Rattle.conelist.specs.Layout.{spot_of, fit_all, Fits}
 use Rattle.conelist.proofs.Placed.{clear_spot, all_fit}
 use Rattle.conecalls.specs.Deed.{Numbers, lengths_of, tests_of, comes, comes_at}
 use Rattle.conecalls.proofs.Own.{lengths_kept}
-use Rattle.list_scaling.specs.Scaling.{is_true, update_scaling_deed as D, lengths_at}
+use Rattle.list_scaling.specs.Scaling.{is_true, update_scaling_deed, lengths_at}
 use Rattle.list_scaling.proofs.Laws.{keeps}
 use Rattle.whole_scaling.specs.List.{Written}
 use Rattle.whole_scaling.specs.declared.Walk.{Walk}

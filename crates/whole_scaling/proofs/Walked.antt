@@ -17,7 +17,7 @@ use Rattle.conelist.specs.declared.Cone.{Cone}
 use Rattle.conelist.specs.declared.Place.{Place}
 use Rattle.conelist.specs.Layout.{dim, block_dim, kind_of_cone, sum_before, entries_of, bad_records, bad_list, laid_at, alone, found_of, place_of, fit_all}
 use Rattle.conecalls.specs.Deed.{Whole, Tuple, owns, lengths_of, refusal_of, works, comes}
-use Rattle.list_scaling.specs.Scaling.{is_true, update_scaling_deed as D, lengths_at}
+use Rattle.list_scaling.specs.Scaling.{is_true, update_scaling_deed, lengths_at}
 use Rattle.walks.specs.Records.{no_cone, over_records}
 use Rattle.walks.proofs.Indexed.{kind_at}
 use Rattle.whole_scaling.proofs.Laws.{at_true, fits_start, fits_turn}
