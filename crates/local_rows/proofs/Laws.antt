@@ -29,3 +29,7 @@ front_by c xs l false e =
 pub front : {X : Type 0} (c : ℕ) (xs : List X) → length xs ≡ 257 → take (held c) xs ≡ take c xs
 unfolding held
 front c xs l = front_by c xs l (ltb c 257) refl
+
+-- so many are in the array
+pub within : {X : Type 0} (c : ℕ) (xs : List X) → length xs ≡ 257 → held c ≤ length xs
+within c xs l = rw l (few c)

@@ -1,0 +1,13 @@
+-- `local_calls::ds_from_dz_offset` meets its contract: the records that are lent are the array's first so many. Written by tools/surface. Assumes nothing.
+use Rattle.std.proofs.Common.{sym, ◌∙◌, length-take-le}
+use Rattle.local_rows.proofs.Laws.{within, front}
+use Rattle.local_calls.proofs.ds_from_dz_offset.Goals as goal
+
+pub slice_bounds-list-end : goal.slice_bounds-list-end
+slice_bounds-list-end c = rw c.held-few.ensures (within c.args.cones c.args.list c.well_formed.0.1.0.1)
+
+pub slice_bounds-ds_from_dz_offset-end : goal.slice_bounds-ds_from_dz_offset-end
+slice_bounds-ds_from_dz_offset-end c = sym (length-take-le _ _ (rw c.held-few.ensures (within c.args.cones c.args.list c.well_formed.0.1.0.1)))
+
+pub returns : goal.returns
+returns c = c.ds_from_dz_offset.ensures ∙ rw (c.held-few.ensures, front c.args.cones c.args.list c.well_formed.0.1.0.1)
