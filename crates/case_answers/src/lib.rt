@@ -2,125 +2,125 @@
 #![tactic(auto)]
 
 use answers::{Answer, Margins, Number, Scaling, Scalings, Square, Standing, Stands, Step, Steps};
+use std::io;
+use std::io::Write;
 
 // A double by the 16 digits of its bits, or the word NaN.
-pub fn number(x: f64) {
-    show::text(b" ");
+pub fn number<W: Write>(out: &mut W, x: f64) -> io::Result<()> {
+    show::text(out, b" ")?;
     if x != x {
-        show::text(b"NaN");
+        show::text(out, b"NaN")
     } else {
-        io::print_hex(1, f64::to_bits(x), 16);
+        write!(out, "{:016x}", f64::to_bits(x))
     }
 }
 
 // What a slice holds, behind a bar.
-pub fn contents(x: &[f64]) {
-    show::text(b" |");
-    let mut i = 0;
-    while i < x.len() {
-        number(x[i]);
-        i += 1;
+pub fn contents<W: Write>(out: &mut W, x: &[f64]) -> io::Result<()> {
+    show::text(out, b" |")?;
+    for entry in x {
+        number(out, *entry)?;
     }
+    Ok(())
 }
 
 // What a slice of one entry holds.
-pub fn single(x: f64) {
-    show::text(b" |");
-    number(x);
+pub fn single<W: Write>(out: &mut W, x: f64) -> io::Result<()> {
+    show::text(out, b" |")?;
+    number(out, x)
 }
 
-fn refusal(no: u8) {
-    show::decimal(no as u64);
+fn refusal<W: Write>(out: &mut W, no: u8) -> io::Result<()> {
+    show::decimal(out, no as u64)
 }
 
-fn small(n: u64) {
-    show::text(b" ");
-    show::decimal(n);
+fn small<W: Write>(out: &mut W, n: u64) -> io::Result<()> {
+    show::text(out, b" ")?;
+    show::decimal(out, n)
 }
 
-fn mark(m: u8) {
-    small(m as u64);
+fn mark<W: Write>(out: &mut W, m: u8) -> io::Result<()> {
+    small(out, m as u64)
 }
 
 // What a slice of marks holds.
-pub fn marks(x: &[u8]) {
-    show::text(b" |");
-    let mut i = 0;
-    while i < x.len() {
-        mark(x[i]);
-        i += 1;
+pub fn marks<W: Write>(out: &mut W, x: &[u8]) -> io::Result<()> {
+    show::text(out, b" |")?;
+    for m in x {
+        mark(out, *m)?;
     }
+    Ok(())
 }
 
-pub fn value(x: f64) {
-    refusal(0);
-    number(x);
+pub fn value<W: Write>(out: &mut W, x: f64) -> io::Result<()> {
+    refusal(out, 0)?;
+    number(out, x)
 }
 
-pub fn answer(x: Answer) {
+pub fn answer<W: Write>(out: &mut W, x: Answer) -> io::Result<()> {
     match x {
-        Answer::Done => refusal(0),
-        Answer::Refused(no) => refusal(no),
+        Answer::Done => refusal(out, 0),
+        Answer::Refused(no) => refusal(out, no),
     }
 }
 
-pub fn margins(x: Margins) {
+pub fn margins<W: Write>(out: &mut W, x: Margins) -> io::Result<()> {
     match x {
         Margins::Are(a, b) => {
-            value(a);
-            number(b);
+            value(out, a)?;
+            number(out, b)
         }
-        Margins::Refused(no) => refusal(no),
+        Margins::Refused(no) => refusal(out, no),
     }
 }
 
-pub fn scaling(x: Scaling) {
+pub fn scaling<W: Write>(out: &mut W, x: Scaling) -> io::Result<()> {
     match x {
         Scaling::Truth(t) => {
-            refusal(0);
-            small(if t { 1 } else { 0 });
+            refusal(out, 0)?;
+            small(out, if t { 1 } else { 0 })
         }
-        Scaling::Refused(no) => refusal(no),
+        Scaling::Refused(no) => refusal(out, no),
     }
 }
 
 // Of a false the cone's index too.
-pub fn scalings(x: Scalings) {
+pub fn scalings<W: Write>(out: &mut W, x: Scalings) -> io::Result<()> {
     match x {
         Scalings::AllTrue => {
-            refusal(0);
-            small(1);
+            refusal(out, 0)?;
+            small(out, 1)
         }
         Scalings::FalseAt(k) => {
-            refusal(0);
-            small(0);
-            small(k as u64);
+            refusal(out, 0)?;
+            small(out, 0)?;
+            small(out, k as u64)
         }
-        Scalings::Refused(no) => refusal(no),
+        Scalings::Refused(no) => refusal(out, no),
     }
 }
 
-pub fn residual(x: Number) {
+pub fn residual<W: Write>(out: &mut W, x: Number) -> io::Result<()> {
     match x {
-        Number::Is(v) => value(v),
-        Number::Refused(no) => refusal(no),
+        Number::Is(v) => value(out, v),
+        Number::Refused(no) => refusal(out, no),
     }
 }
 
-pub fn step(x: Step) {
+pub fn step<W: Write>(out: &mut W, x: Step) -> io::Result<()> {
     match x {
-        Step::Length(v) => value(v),
-        Step::Refused(no) => refusal(no),
+        Step::Length(v) => value(out, v),
+        Step::Refused(no) => refusal(out, no),
     }
 }
 
-pub fn steps(x: Steps) {
+pub fn steps<W: Write>(out: &mut W, x: Steps) -> io::Result<()> {
     match x {
         Steps::Lengths(pair) => {
-            value(pair.z);
-            number(pair.s);
+            value(out, pair.z)?;
+            number(out, pair.s)
         }
-        Steps::Refused(no) => refusal(no),
+        Steps::Refused(no) => refusal(out, no),
     }
 }
 
@@ -135,32 +135,28 @@ fn place(x: Standing) -> u64 {
     }
 }
 
-pub fn stands(x: Stands) {
+pub fn stands<W: Write>(out: &mut W, x: Stands) -> io::Result<()> {
     match x {
         Stands::As(s) => {
-            refusal(0);
-            small(place(s));
+            refusal(out, 0)?;
+            small(out, place(s))
         }
-        Stands::Refused(no) => refusal(no),
+        Stands::Refused(no) => refusal(out, no),
     }
 }
 
-fn four(x: [f64; 4]) {
-    number(x[0]);
-    number(x[1]);
-    number(x[2]);
-    number(x[3]);
+fn four<W: Write>(out: &mut W, x: &[f64; 4]) -> io::Result<()> {
+    for entry in x {
+        number(out, *entry)?;
+    }
+    Ok(())
 }
 
 // The matrix by rows, also where it is refused.
-pub fn square(x: Square) {
-    refusal(x.no);
-    let rows = x.rows;
-    let mut i: usize = 0;
-    while i < 4 {
-        let row = rows[i];
-        let entries = row.entries;
-        four(entries);
-        i += 1;
+pub fn square<W: Write>(out: &mut W, x: Square) -> io::Result<()> {
+    refusal(out, x.no)?;
+    for row in &x.rows {
+        four(out, &row.entries)?;
     }
+    Ok(())
 }

@@ -25,6 +25,7 @@ fn records(words: &[u64], n: usize, out: &mut [[usize; 3]])
 }
 
 // A row of n records, with which the words begin.
+#[tactic(auto, using(std::proofs::lemmas::Bool::Decides::nat_tests), unfolding(crate::specs::Rows::list_of))]
 pub fn list_of(n: usize, words: &[u64], out: &mut [[usize; 3]; 260]) -> Cut
     ensures out_after { record { cut = result; holds = out.new } ≡ list_of n words.now out.old }
     ensures counts { Counts result.length out.new × (result.at ≤ length words.now) }

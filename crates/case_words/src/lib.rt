@@ -31,6 +31,7 @@ pub fn stop(fault: u8) -> Cut
 // ---- where the slices lie
 
 // The slice at a place: its length, and its entries.
+#[tactic(auto, using(std::proofs::lemmas::Bool::Decides::nat_tests), unfolding(crate::specs::Words::slice))]
 fn slice(words: &[u64], at: usize) -> Cut
     ensures { result ≡ slice words.now at }
 {
@@ -53,6 +54,7 @@ fn slice(words: &[u64], at: usize) -> Cut
 }
 
 // The slice behind what is read so far; what is wrong stays.
+#[tactic(auto, using(std::proofs::lemmas::Bool::Decides::nat_tests), unfolding(crate::specs::Words::behind))]
 fn behind(words: &[u64], had: Cut) -> Cut
     ensures { result ≡ behind words.now had }
 {
@@ -76,6 +78,7 @@ pub fn nth(words: &[u64], k: usize) -> Cut
 }
 
 // What is wrong with the words of k slices: 9, words are left over.
+#[tactic(auto, using(std::proofs::lemmas::Bool::Decides::nat_tests), unfolding(crate::specs::Words::left))]
 pub fn wrong(words: &[u64], k: usize) -> u8
     ensures { result ≡ left words.now (nth words.now k) }
 {

@@ -36,6 +36,7 @@ pub fn start() -> Line
 }
 
 // What a digit stands for; 16 for any other byte.
+#[tactic(auto, using(std::proofs::lemmas::Bool::Decides::nat_tests), unfolding(crate::specs::Text::digit))]
 fn digit(b: u8) -> u8
     ensures { result ≡ digit b }
 {
@@ -47,6 +48,7 @@ fn digit(b: u8) -> u8
 }
 
 // The line with one digit more.
+#[tactic(auto, using(std::proofs::lemmas::Bool::Decides::nat_tests), unfolding(crate::specs::Text::grown))]
 fn grown(line: Line, d: u8) -> Line
     ensures { result ≡ grown d line }
 {
@@ -70,6 +72,7 @@ fn grown(line: Line, d: u8) -> Line
 }
 
 // The line at the end of a word, which goes to its place.
+#[tactic(auto, using(std::proofs::lemmas::Bool::Decides::nat_tests), unfolding(crate::specs::Text::ends))]
 fn ended(line: Line, words: &mut [u64]) -> Line
     ensures words_after { record { line = result; words = words.new } ≡ ends (record { line = line; words = words.old }) }
     ensures counts { Counts result.count words.new }
@@ -91,6 +94,7 @@ fn ended(line: Line, words: &mut [u64]) -> Line
 }
 
 // The line with one byte more, which is no line end. A line that is damaged stays so.
+#[tactic(auto, using(std::proofs::lemmas::Bool::Decides::nat_tests), unfolding(crate::specs::Text::takes))]
 pub fn take(line: Line, b: u8, words: &mut [u64]) -> Line
     ensures { record { line = result; words = words.new } ≡ takes b (record { line = line; words = words.old }) }
 {
@@ -104,6 +108,7 @@ pub fn take(line: Line, b: u8, words: &mut [u64]) -> Line
 }
 
 // The line at its end. What is wrong with it stays; its words are then none.
+#[tactic(auto, using(std::proofs::lemmas::Bool::Decides::nat_tests), unfolding(crate::specs::Text::closes))]
 pub fn end(line: Line, words: &mut [u64]) -> Line
     ensures words_after { record { line = result; words = words.new } ≡ closes (record { line = line; words = words.old }) }
     ensures counts { Counts result.count words.new }

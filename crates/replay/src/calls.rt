@@ -4,10 +4,12 @@
 use crate::slices;
 use answers::{Answer, Steps};
 use conelist::Place;
+use std::io;
+use std::io::Write;
 
 // A case but for its slices: the call's number, the call's numbers, the cone that it names, how many slices there are, how many of them the
 // call writes, and whether the last one is the marks.
-#[derive(Drop)]
+#[derive(Clone, Copy)]
 pub struct Case {
     pub call: u64,
     pub a: f64,
@@ -29,28 +31,28 @@ fn number(c: Case) -> f64 {
     }
 }
 
-fn reads_one(c: Case, z: &[f64]) {
+fn reads_one<W: Write>(out: &mut W, c: Case, z: &[f64]) -> io::Result<()> {
     let call = c.call;
     match call {
-        0x100 => case_answers::margins(soc_units::soc_margins(z)),
-        0x200 => case_answers::margins(nn_units::nn_margins(z)),
-        0x300 => case_answers::margins(list_margins::margins_at(c.place, z)),
-        0x111 => case_answers::stands(standing::soc_standing(z)),
-        0x211 => case_answers::stands(standing::nn_standing(z)),
-        0x311 => case_answers::stands(list_standing::standing_at(c.place, z)),
-        0x113 => case_answers::residual(soc_residual::soc_residual(z)),
-        _ => case_answers::residual(soc_residual::sqrt_soc_residual(z)),
+        0x100 => case_answers::margins(out, soc_units::soc_margins(z)),
+        0x200 => case_answers::margins(out, nn_units::nn_margins(z)),
+        0x300 => case_answers::margins(out, list_margins::margins_at(c.place, z)),
+        0x111 => case_answers::stands(out, standing::soc_standing(z)),
+        0x211 => case_answers::stands(out, standing::nn_standing(z)),
+        0x311 => case_answers::stands(out, list_standing::standing_at(c.place, z)),
+        0x113 => case_answers::residual(out, soc_residual::soc_residual(z)),
+        _ => case_answers::residual(out, soc_residual::sqrt_soc_residual(z)),
     }
 }
 
 // The second slice is a direction, or eta; the second-order cone is lent eta as a number.
-fn reads_two(c: Case, x: &[f64], y: &[f64], eta: f64) {
+fn reads_two<W: Write>(out: &mut W, c: Case, x: &[f64], y: &[f64], eta: f64) -> io::Result<()> {
     let call = c.call;
     match call {
-        0x106 => case_answers::square(soc_square::soc_square_hs(x, &eta)),
-        0x112 => case_answers::step(soc_step::soc_step(x, y, c.a)),
-        0x212 => case_answers::step(nn_step::nn_step(x, y, c.a)),
-        _ => case_answers::residual(soc_residual::soc_residual_shifted(x, y, c.a)),
+        0x106 => case_answers::square(out, soc_square::soc_square_hs(x, &eta)),
+        0x112 => case_answers::step(out, soc_step::soc_step(x, y, c.a)),
+        0x212 => case_answers::step(out, nn_step::nn_step(x, y, c.a)),
+        _ => case_answers::residual(out, soc_residual::soc_residual_shifted(x, y, c.a)),
     }
 }
 
@@ -64,25 +66,37 @@ fn steps(c: Case, row: &[[usize; 3]], dz: &[f64], ds: &[f64], z: &[f64], s: &[f6
     }
 }
 
-fn reads_four(c: Case, row: &[[usize; 3]], words: &[u64], held: &[f64]) {
-    case_answers::steps(steps(
-        c,
-        row,
-        slices::part(words, held, 1),
-        slices::part(words, held, 2),
-        slices::part(words, held, 3),
-        slices::part(words, held, 4),
-    ));
+fn reads_four<W: Write>(
+    out: &mut W,
+    c: Case,
+    row: &[[usize; 3]],
+    words: &[u64],
+    held: &[f64],
+) -> io::Result<()> {
+    case_answers::steps(
+        out,
+        steps(
+            c,
+            row,
+            slices::part(words, held, 1),
+            slices::part(words, held, 2),
+            slices::part(words, held, 3),
+            slices::part(words, held, 4),
+        ),
+    )
 }
 
-fn list_square(c: Case, words: &[u64], held: &[f64]) {
+fn list_square<W: Write>(out: &mut W, c: Case, words: &[u64], held: &[f64]) -> io::Result<()> {
     let bytes = slices::all_marks(words);
-    case_answers::square(list_square::square_hs_at(
-        c.place,
-        slices::part(words, held, 1),
-        slices::part(words, held, 2),
-        slices::marks(words, &bytes, 3),
-    ));
+    case_answers::square(
+        out,
+        list_square::square_hs_at(
+            c.place,
+            slices::part(words, held, 1),
+            slices::part(words, held, 2),
+            slices::marks(words, &bytes, 3),
+        ),
+    )
 }
 
 // ---- a call that writes one slice: first by how many it reads
@@ -166,24 +180,30 @@ fn one(c: Case, words: &[u64], held: &[f64], x: &mut [f64]) -> Answer {
     }
 }
 
-fn writes_one(c: Case, words: &[u64], held: &[f64]) {
+fn writes_one<W: Write>(out: &mut W, c: Case, words: &[u64], held: &[f64]) -> io::Result<()> {
     let mut own = slices::numbers(words);
-    case_answers::answer(one(c, words, held, slices::part_mut(words, &mut own, 1)));
-    slices::told(words, own, 1);
+    case_answers::answer(
+        out,
+        one(c, words, held, slices::part_mut(words, &mut own, 1)),
+    )?;
+    slices::told(out, words, own, 1)
 }
 
-fn second_order_offset(words: &[u64], held: &[f64]) {
+fn second_order_offset<W: Write>(out: &mut W, words: &[u64], held: &[f64]) -> io::Result<()> {
     let mut own1 = slices::numbers(words);
     let eta = slices::number(words, held, 6);
-    case_answers::answer(soc_offset::soc_ds_from_dz_offset(
-        slices::part_mut(words, &mut own1, 1),
-        slices::part(words, held, 2),
-        slices::part(words, held, 3),
-        slices::part(words, held, 4),
-        slices::part(words, held, 5),
-        &eta,
-    ));
-    slices::told(words, own1, 1);
+    case_answers::answer(
+        out,
+        soc_offset::soc_ds_from_dz_offset(
+            slices::part_mut(words, &mut own1, 1),
+            slices::part(words, held, 2),
+            slices::part(words, held, 3),
+            slices::part(words, held, 4),
+            slices::part(words, held, 5),
+            &eta,
+        ),
+    )?;
+    slices::told(out, words, own1, 1)
 }
 
 // One cone of a list, whose mark is read.
@@ -212,17 +232,20 @@ fn list_one(c: Case, words: &[u64], held: &[f64], marks: &[u8], x: &mut [f64]) -
     }
 }
 
-fn list_writes_one(c: Case, words: &[u64], held: &[f64]) {
+fn list_writes_one<W: Write>(out: &mut W, c: Case, words: &[u64], held: &[f64]) -> io::Result<()> {
     let mut own1 = slices::numbers(words);
     let bytes = slices::all_marks(words);
-    case_answers::answer(list_one(
-        c,
-        words,
-        held,
-        slices::marks(words, &bytes, c.slices),
-        slices::part_mut(words, &mut own1, 1),
-    ));
-    slices::told(words, own1, 1);
+    case_answers::answer(
+        out,
+        list_one(
+            c,
+            words,
+            held,
+            slices::marks(words, &bytes, c.slices),
+            slices::part_mut(words, &mut own1, 1),
+        ),
+    )?;
+    slices::told(out, words, own1, 1)
 }
 
 // ---- a call that writes several
@@ -236,161 +259,196 @@ fn units(c: Case, z: &mut [f64], s: &mut [f64]) -> Answer {
     }
 }
 
-fn writes_two(c: Case, words: &[u64]) {
+fn writes_two<W: Write>(out: &mut W, c: Case, words: &[u64]) -> io::Result<()> {
     let mut own1 = slices::numbers(words);
     let mut own2 = own1;
-    case_answers::answer(units(
-        c,
-        slices::part_mut(words, &mut own1, 1),
-        slices::part_mut(words, &mut own2, 2),
-    ));
-    slices::told(words, own1, 1);
-    slices::told(words, own2, 2);
+    case_answers::answer(
+        out,
+        units(
+            c,
+            slices::part_mut(words, &mut own1, 1),
+            slices::part_mut(words, &mut own2, 2),
+        ),
+    )?;
+    slices::told(out, words, own1, 1)?;
+    slices::told(out, words, own2, 2)
 }
 
-fn second_order_combined(c: Case, words: &[u64], held: &[f64]) {
+fn second_order_combined<W: Write>(
+    out: &mut W,
+    c: Case,
+    words: &[u64],
+    held: &[f64],
+) -> io::Result<()> {
     let mut own1 = slices::numbers(words);
     let mut own2 = own1;
     let mut own3 = own1;
     let eta = slices::number(words, held, 5);
-    case_answers::answer(soc_combined::soc_combined_ds_shift(
-        slices::part_mut(words, &mut own1, 1),
-        slices::part_mut(words, &mut own2, 2),
-        slices::part_mut(words, &mut own3, 3),
-        c.a,
-        slices::part(words, held, 4),
-        &eta,
-    ));
-    slices::told(words, own1, 1);
-    slices::told(words, own2, 2);
-    slices::told(words, own3, 3);
+    case_answers::answer(
+        out,
+        soc_combined::soc_combined_ds_shift(
+            slices::part_mut(words, &mut own1, 1),
+            slices::part_mut(words, &mut own2, 2),
+            slices::part_mut(words, &mut own3, 3),
+            c.a,
+            slices::part(words, held, 4),
+            &eta,
+        ),
+    )?;
+    slices::told(out, words, own1, 1)?;
+    slices::told(out, words, own2, 2)?;
+    slices::told(out, words, own3, 3)
 }
 
-fn nonnegative_combined(c: Case, words: &[u64], held: &[f64]) {
+fn nonnegative_combined<W: Write>(
+    out: &mut W,
+    c: Case,
+    words: &[u64],
+    held: &[f64],
+) -> io::Result<()> {
     let mut own1 = slices::numbers(words);
     let mut own2 = own1;
     let mut own3 = own1;
-    case_answers::answer(nn_combined::nn_combined_ds_shift(
-        slices::part_mut(words, &mut own1, 1),
-        slices::part_mut(words, &mut own2, 2),
-        slices::part_mut(words, &mut own3, 3),
-        c.a,
-        slices::part(words, held, 4),
-    ));
-    slices::told(words, own1, 1);
-    slices::told(words, own2, 2);
-    slices::told(words, own3, 3);
+    case_answers::answer(
+        out,
+        nn_combined::nn_combined_ds_shift(
+            slices::part_mut(words, &mut own1, 1),
+            slices::part_mut(words, &mut own2, 2),
+            slices::part_mut(words, &mut own3, 3),
+            c.a,
+            slices::part(words, held, 4),
+        ),
+    )?;
+    slices::told(out, words, own1, 1)?;
+    slices::told(out, words, own2, 2)?;
+    slices::told(out, words, own3, 3)
 }
 
-fn list_combined(c: Case, words: &[u64], held: &[f64]) {
+fn list_combined<W: Write>(out: &mut W, c: Case, words: &[u64], held: &[f64]) -> io::Result<()> {
     let mut own1 = slices::numbers(words);
     let mut own2 = own1;
     let mut own3 = own1;
     let bytes = slices::all_marks(words);
-    case_answers::answer(list_shifts::combined_ds_shift_at(
-        c.place,
-        slices::part_mut(words, &mut own1, 1),
-        slices::part_mut(words, &mut own2, 2),
-        slices::part_mut(words, &mut own3, 3),
-        c.a,
-        slices::part(words, held, 4),
-        slices::part(words, held, 5),
-        slices::marks(words, &bytes, 6),
-    ));
-    slices::told(words, own1, 1);
-    slices::told(words, own2, 2);
-    slices::told(words, own3, 3);
+    case_answers::answer(
+        out,
+        list_shifts::combined_ds_shift_at(
+            c.place,
+            slices::part_mut(words, &mut own1, 1),
+            slices::part_mut(words, &mut own2, 2),
+            slices::part_mut(words, &mut own3, 3),
+            c.a,
+            slices::part(words, held, 4),
+            slices::part(words, held, 5),
+            slices::marks(words, &bytes, 6),
+        ),
+    )?;
+    slices::told(out, words, own1, 1)?;
+    slices::told(out, words, own2, 2)?;
+    slices::told(out, words, own3, 3)
 }
 
-fn second_order_identity(words: &[u64], held: &[f64]) {
+fn second_order_identity<W: Write>(out: &mut W, words: &[u64], held: &[f64]) -> io::Result<()> {
     let mut own1 = slices::numbers(words);
     let mut own2 = own1;
     let mut own3 = own1;
     let mut eta = slices::number(words, held, 4);
     let mut d = slices::number(words, held, 5);
-    case_answers::answer(soc_identity::soc_set_identity_scaling(
-        slices::part_mut(words, &mut own1, 1),
-        slices::part_mut(words, &mut own2, 2),
-        slices::part_mut(words, &mut own3, 3),
-        &mut eta,
-        &mut d,
-    ));
-    slices::told(words, own1, 1);
-    slices::told(words, own2, 2);
-    slices::told(words, own3, 3);
-    case_answers::single(eta);
-    case_answers::single(d);
+    case_answers::answer(
+        out,
+        soc_identity::soc_set_identity_scaling(
+            slices::part_mut(words, &mut own1, 1),
+            slices::part_mut(words, &mut own2, 2),
+            slices::part_mut(words, &mut own3, 3),
+            &mut eta,
+            &mut d,
+        ),
+    )?;
+    slices::told(out, words, own1, 1)?;
+    slices::told(out, words, own2, 2)?;
+    slices::told(out, words, own3, 3)?;
+    case_answers::single(out, eta)?;
+    case_answers::single(out, d)
 }
 
-fn list_identity(c: Case, words: &[u64]) {
+fn list_identity<W: Write>(out: &mut W, c: Case, words: &[u64]) -> io::Result<()> {
     let mut own1 = slices::numbers(words);
     let mut own2 = own1;
     let mut own3 = own1;
     let mut own4 = own1;
     let mut own5 = own1;
     let mut own6 = slices::all_marks(words);
-    case_answers::answer(list_identity::set_identity_scaling_at(
-        c.place,
-        slices::part_mut(words, &mut own1, 1),
-        slices::part_mut(words, &mut own2, 2),
-        slices::part_mut(words, &mut own3, 3),
-        slices::part_mut(words, &mut own4, 4),
-        slices::part_mut(words, &mut own5, 5),
-        slices::marks_mut(words, &mut own6, 6),
-    ));
-    slices::told(words, own1, 1);
-    slices::told(words, own2, 2);
-    slices::told(words, own3, 3);
-    slices::told(words, own4, 4);
-    slices::told(words, own5, 5);
-    slices::told_marks(words, own6, 6);
+    case_answers::answer(
+        out,
+        list_identity::set_identity_scaling_at(
+            c.place,
+            slices::part_mut(words, &mut own1, 1),
+            slices::part_mut(words, &mut own2, 2),
+            slices::part_mut(words, &mut own3, 3),
+            slices::part_mut(words, &mut own4, 4),
+            slices::part_mut(words, &mut own5, 5),
+            slices::marks_mut(words, &mut own6, 6),
+        ),
+    )?;
+    slices::told(out, words, own1, 1)?;
+    slices::told(out, words, own2, 2)?;
+    slices::told(out, words, own3, 3)?;
+    slices::told(out, words, own4, 4)?;
+    slices::told(out, words, own5, 5)?;
+    slices::told_marks(out, words, own6, 6)
 }
 
 // An update of a scaling reads two slices first.
-fn second_order_scaling(words: &[u64], held: &[f64]) {
+fn second_order_scaling<W: Write>(out: &mut W, words: &[u64], held: &[f64]) -> io::Result<()> {
     let mut own3 = slices::numbers(words);
     let mut own4 = own3;
     let mut own5 = own3;
     let mut own6 = own3;
     let mut eta = slices::number(words, held, 7);
     let mut d = slices::number(words, held, 8);
-    case_answers::scaling(soc_scaling::soc_update_scaling(
-        slices::part(words, held, 1),
-        slices::part(words, held, 2),
-        slices::part_mut(words, &mut own3, 3),
-        slices::part_mut(words, &mut own4, 4),
-        slices::part_mut(words, &mut own5, 5),
-        slices::part_mut(words, &mut own6, 6),
-        &mut eta,
-        &mut d,
-    ));
-    slices::tell(words, held, 1);
-    slices::tell(words, held, 2);
-    slices::told(words, own3, 3);
-    slices::told(words, own4, 4);
-    slices::told(words, own5, 5);
-    slices::told(words, own6, 6);
-    case_answers::single(eta);
-    case_answers::single(d);
+    case_answers::scaling(
+        out,
+        soc_scaling::soc_update_scaling(
+            slices::part(words, held, 1),
+            slices::part(words, held, 2),
+            slices::part_mut(words, &mut own3, 3),
+            slices::part_mut(words, &mut own4, 4),
+            slices::part_mut(words, &mut own5, 5),
+            slices::part_mut(words, &mut own6, 6),
+            &mut eta,
+            &mut d,
+        ),
+    )?;
+    slices::tell(out, words, held, 1)?;
+    slices::tell(out, words, held, 2)?;
+    slices::told(out, words, own3, 3)?;
+    slices::told(out, words, own4, 4)?;
+    slices::told(out, words, own5, 5)?;
+    slices::told(out, words, own6, 6)?;
+    case_answers::single(out, eta)?;
+    case_answers::single(out, d)
 }
 
-fn nonnegative_scaling(words: &[u64], held: &[f64]) {
+fn nonnegative_scaling<W: Write>(out: &mut W, words: &[u64], held: &[f64]) -> io::Result<()> {
     let mut own3 = slices::numbers(words);
     let mut own4 = own3;
-    case_answers::scaling(nn_scaling::nn_update_scaling(
-        slices::part(words, held, 1),
-        slices::part(words, held, 2),
-        slices::part_mut(words, &mut own3, 3),
-        slices::part_mut(words, &mut own4, 4),
-    ));
-    slices::tell(words, held, 1);
-    slices::tell(words, held, 2);
-    slices::told(words, own3, 3);
-    slices::told(words, own4, 4);
+    case_answers::scaling(
+        out,
+        nn_scaling::nn_update_scaling(
+            slices::part(words, held, 1),
+            slices::part(words, held, 2),
+            slices::part_mut(words, &mut own3, 3),
+            slices::part_mut(words, &mut own4, 4),
+        ),
+    )?;
+    slices::tell(out, words, held, 1)?;
+    slices::tell(out, words, held, 2)?;
+    slices::told(out, words, own3, 3)?;
+    slices::told(out, words, own4, 4)
 }
 
 // Of one cone of a list, or of the whole list.
-fn scaled(
+fn scaled<W: Write>(
+    out: &mut W,
     c: Case,
     row: &[[usize; 3]],
     s: &[f64],
@@ -402,19 +460,27 @@ fn scaled(
     eta: &mut [f64],
     d: &mut [f64],
     marks: &mut [u8],
-) {
+) -> io::Result<()> {
     if c.call == 0x313 {
-        case_answers::scalings(records_scaling::list_update_scaling(
-            row, s, z, w, lambda, u, v, eta, d, marks,
-        ));
+        case_answers::scalings(
+            out,
+            records_scaling::list_update_scaling(row, s, z, w, lambda, u, v, eta, d, marks),
+        )
     } else {
-        case_answers::scaling(list_scaling::update_scaling_at(
-            c.place, s, z, w, lambda, u, v, eta, d, marks,
-        ));
+        case_answers::scaling(
+            out,
+            list_scaling::update_scaling_at(c.place, s, z, w, lambda, u, v, eta, d, marks),
+        )
     }
 }
 
-fn list_scaling(c: Case, row: &[[usize; 3]], words: &[u64], held: &[f64]) {
+fn list_scaling<W: Write>(
+    out: &mut W,
+    c: Case,
+    row: &[[usize; 3]],
+    words: &[u64],
+    held: &[f64],
+) -> io::Result<()> {
     let mut own3 = slices::numbers(words);
     let mut own4 = own3;
     let mut own5 = own3;
@@ -423,6 +489,7 @@ fn list_scaling(c: Case, row: &[[usize; 3]], words: &[u64], held: &[f64]) {
     let mut own8 = own3;
     let mut own9 = slices::all_marks(words);
     scaled(
+        out,
         c,
         row,
         slices::part(words, held, 1),
@@ -434,93 +501,120 @@ fn list_scaling(c: Case, row: &[[usize; 3]], words: &[u64], held: &[f64]) {
         slices::part_mut(words, &mut own7, 7),
         slices::part_mut(words, &mut own8, 8),
         slices::marks_mut(words, &mut own9, 9),
-    );
-    slices::tell(words, held, 1);
-    slices::tell(words, held, 2);
-    slices::told(words, own3, 3);
-    slices::told(words, own4, 4);
-    slices::told(words, own5, 5);
-    slices::told(words, own6, 6);
-    slices::told(words, own7, 7);
-    slices::told(words, own8, 8);
-    slices::told_marks(words, own9, 9);
+    )?;
+    slices::tell(out, words, held, 1)?;
+    slices::tell(out, words, held, 2)?;
+    slices::told(out, words, own3, 3)?;
+    slices::told(out, words, own4, 4)?;
+    slices::told(out, words, own5, 5)?;
+    slices::told(out, words, own6, 6)?;
+    slices::told(out, words, own7, 7)?;
+    slices::told(out, words, own8, 8)?;
+    slices::told_marks(out, words, own9, 9)
 }
 
 // ---- each by what it writes
 
-fn writes_three(c: Case, words: &[u64], held: &[f64]) {
+fn writes_three<W: Write>(out: &mut W, c: Case, words: &[u64], held: &[f64]) -> io::Result<()> {
     let call = c.call;
     match call {
-        0x109 => second_order_combined(c, words, held),
-        0x209 => nonnegative_combined(c, words, held),
-        _ => list_combined(c, words, held),
+        0x109 => second_order_combined(out, c, words, held),
+        0x209 => nonnegative_combined(out, c, words, held),
+        _ => list_combined(out, c, words, held),
     }
 }
 
-fn writes_most(c: Case, row: &[[usize; 3]], words: &[u64], held: &[f64]) {
+fn writes_most<W: Write>(
+    out: &mut W,
+    c: Case,
+    row: &[[usize; 3]],
+    words: &[u64],
+    held: &[f64],
+) -> io::Result<()> {
     let call = c.call;
     match call {
-        0x103 => second_order_identity(words, held),
-        0x303 => list_identity(c, words),
-        0x104 => second_order_scaling(words, held),
-        _ => list_scaling(c, row, words, held),
+        0x103 => second_order_identity(out, words, held),
+        0x303 => list_identity(out, c, words),
+        0x104 => second_order_scaling(out, words, held),
+        _ => list_scaling(out, c, row, words, held),
     }
 }
 
-fn writes_none(c: Case, row: &[[usize; 3]], words: &[u64], held: &[f64]) {
+fn writes_none<W: Write>(
+    out: &mut W,
+    c: Case,
+    row: &[[usize; 3]],
+    words: &[u64],
+    held: &[f64],
+) -> io::Result<()> {
     let x = slices::part(words, held, 1);
     let y = slices::part(words, held, 2);
     let slices = c.slices;
     match slices {
-        0 => case_answers::value(number(c)),
-        1 => reads_one(c, x),
-        2 => reads_two(c, x, y, slices::number(words, held, 2)),
-        3 => list_square(c, words, held),
-        _ => reads_four(c, row, words, held),
+        0 => case_answers::value(out, number(c)),
+        1 => reads_one(out, c, x),
+        2 => reads_two(out, c, x, y, slices::number(words, held, 2)),
+        3 => list_square(out, c, words, held),
+        _ => reads_four(out, c, row, words, held),
     }
 }
 
-fn run(c: Case, row: &[[usize; 3]], words: &[u64], held: &[f64]) {
+fn run<W: Write>(
+    out: &mut W,
+    c: Case,
+    row: &[[usize; 3]],
+    words: &[u64],
+    held: &[f64],
+) -> io::Result<()> {
     let written = c.written;
     match written {
-        0 => writes_none(c, row, words, held),
+        0 => writes_none(out, c, row, words, held),
         1 => if c.marked {
-            list_writes_one(c, words, held)
+            list_writes_one(out, c, words, held)
         } else if c.slices == 6 {
-            second_order_offset(words, held)
+            second_order_offset(out, words, held)
         } else {
-            writes_one(c, words, held)
+            writes_one(out, c, words, held)
         },
         2 => if c.slices == 2 {
-            writes_two(c, words)
+            writes_two(out, c, words)
         } else {
-            nonnegative_scaling(words, held)
+            nonnegative_scaling(out, words, held)
         },
-        3 => writes_three(c, words, held),
-        _ => writes_most(c, row, words, held),
+        3 => writes_three(out, c, words, held),
+        _ => writes_most(out, c, row, words, held),
     }
 }
 
 // The slices behind the first `told` ones, as they were read.
-fn tell_rest(words: &[u64], held: &[f64], told: usize, slices: usize, marked: bool) {
+fn tell_rest<W: Write>(
+    out: &mut W,
+    words: &[u64],
+    held: &[f64],
+    told: usize,
+    slices: usize,
+    marked: bool,
+) -> io::Result<()> {
     if !marked {
-        slices::tell_behind(words, held, told, slices);
+        slices::tell_behind(out, words, held, told, slices)
     } else if told < slices {
-        slices::tell_behind(words, held, told, slices - 1);
-        slices::told_marks(words, slices::all_marks(words), slices);
+        slices::tell_behind(out, words, held, told, slices - 1)?;
+        slices::told_marks(out, words, slices::all_marks(words), slices)
+    } else {
+        Ok(())
     }
 }
 
 // A case run, and told in one line: the slices that the call only reads are told as they were read.
-pub fn made(c: Case, row: &[[usize; 3]], words: &[u64]) {
+pub fn made<W: Write>(out: &mut W, c: Case, row: &[[usize; 3]], words: &[u64]) -> io::Result<()> {
     let held = slices::numbers(words);
-    run(c, row, words, &held);
+    run(out, c, row, words, &held)?;
     // an update of a scaling has told all its slices, any other call those that it writes, which come first
     let told = if (c.call % 256 == 4) | (c.call == 0x313) {
         c.slices
     } else {
         c.written
     };
-    tell_rest(words, &held, told, c.slices, c.marked);
-    show::newline();
+    tell_rest(out, words, &held, told, c.slices, c.marked)?;
+    show::newline(out)
 }

@@ -5,40 +5,42 @@
 
 use calls::Case;
 use cases::Line;
+use std::io;
+use std::io::{BufReader, BufWriter, Read, Write};
 
 mod calls;
 mod slices;
 
 // ---- what is wrong with a line
 
-fn what_of_line(fault: u8) {
+fn what_of_line<W: Write>(out: &mut W, fault: u8) -> io::Result<()> {
     match fault {
-        1 => show::text(b"a byte that is no digit"),
-        2 => show::text(b"an empty word"),
-        3 => show::text(b"a word of over 16 digits"),
-        4 => show::text(b"over 1,400 words"),
-        _ => show::text(b"no line end"),
+        1 => show::text(out, b"a byte that is no digit"),
+        2 => show::text(out, b"an empty word"),
+        3 => show::text(out, b"a word of over 16 digits"),
+        4 => show::text(out, b"over 1,400 words"),
+        _ => show::text(out, b"no line end"),
     }
 }
 
-fn what(fault: u8) {
+fn what<W: Write>(out: &mut W, fault: u8) -> io::Result<()> {
     match fault {
-        5 => show::text(b"no such call"),
-        6 => show::text(b"words are missing"),
-        7 => show::text(b"a slice of over 64 entries"),
-        8 => show::text(b"a row of over 260 records"),
-        9 => show::text(b"words are left over"),
-        10 => show::text(b"a lent number that is not one entry"),
-        _ => what_of_line(fault),
+        5 => show::text(out, b"no such call"),
+        6 => show::text(out, b"words are missing"),
+        7 => show::text(out, b"a slice of over 64 entries"),
+        8 => show::text(out, b"a row of over 260 records"),
+        9 => show::text(out, b"words are left over"),
+        10 => show::text(out, b"a lent number that is not one entry"),
+        _ => what_of_line(out, fault),
     }
 }
 
-fn damaged(number: u64, fault: u8) {
-    show::text(b"line ");
-    show::decimal(number);
-    show::text(b": damaged: ");
-    what(fault);
-    show::newline();
+fn damaged<W: Write>(out: &mut W, number: u64, fault: u8) -> io::Result<()> {
+    show::text(out, b"line ")?;
+    show::decimal(out, number)?;
+    show::text(out, b": damaged: ")?;
+    what(out, fault)?;
+    show::newline(out)
 }
 
 // ---- a case
@@ -163,20 +165,20 @@ fn wrong(words: &[u64], slices: usize, lent: usize) -> u8 {
 }
 
 // A whole line's words; 0, or what is wrong with the line.
-fn case(words: &[u64]) -> u8 {
+fn case<W: Write>(out: &mut W, words: &[u64]) -> io::Result<u8> {
     if words.len() < 5 {
-        return 6;
+        return Ok(6);
     }
     let call = words[0];
     let shape = shape(call);
     if shape == 0xf00 {
-        return 5;
+        return Ok(5);
     }
     let mut held = [[0; 3]; 260];
     let behind = &words[5..];
     let cut = case_rows::list_of(words[4] as usize, behind, &mut held);
     if cut.fault != 0 {
-        return cut.fault;
+        return Ok(cut.fault);
     }
     let n = cut.length;
     let row = &held[..n];
@@ -185,7 +187,7 @@ fn case(words: &[u64]) -> u8 {
     let slices = shape / 256 % 16;
     let fault = wrong(own, slices, shape % 16);
     if fault != 0 {
-        return fault;
+        return Ok(fault);
     }
     let c = Case {
         call,
@@ -196,8 +198,8 @@ fn case(words: &[u64]) -> u8 {
         written: shape / 16 % 16,
         marked: shape / 4096 == 1,
     };
-    calls::made(c, row, own);
-    0
+    calls::made(out, c, row, own)?;
+    Ok(0)
 }
 
 // ---- the lines
@@ -209,63 +211,54 @@ struct State {
     number: u64,
 }
 
-fn line_end(line: Line, number: u64, words: &mut [u64]) {
+fn line_end<W: Write>(out: &mut W, line: Line, number: u64, words: &mut [u64]) -> io::Result<()> {
     let whole = cases::end(line, words);
     let n = whole.count;
     if whole.fault != 0 {
-        damaged(number, whole.fault);
-        return;
+        return damaged(out, number, whole.fault);
     }
-    let fault = case(&words[..n]);
+    let fault = case(out, &words[..n])?;
     if fault != 0 {
-        damaged(number, fault);
+        damaged(out, number, fault)?;
     }
+    Ok(())
 }
 
-fn byte(s: State, b: u8, words: &mut [u64]) -> State {
+fn byte<W: Write>(out: &mut W, s: State, b: u8, words: &mut [u64]) -> io::Result<State> {
     let line = s.line;
     if b == 10 {
-        line_end(line, s.number, words);
-        State {
+        line_end(out, line, s.number, words)?;
+        Ok(State {
             line: cases::start(),
-            number: std::num::wrapping_add_u64(s.number, 1),
-        }
+            number: s.number.wrapping_add(1),
+        })
     } else {
-        State {
+        Ok(State {
             line: cases::take(line, b, words),
             number: s.number,
-        }
+        })
     }
 }
 
-fn block(start: State, bytes: &[u8], words: &mut [u64]) -> State {
-    let mut s = start;
-    let mut i = 0;
-    while i < bytes.len() {
-        s = byte(s, bytes[i], words);
-        i += 1;
-    }
-    s
-}
-
-fn main() {
+fn replay<R: Read + Drop, W: Write>(input: R, out: &mut W) -> io::Result<()> {
     let mut words = [0u64; 1400];
     let mut s = State {
         line: cases::start(),
         number: 1,
     };
-    let mut bytes = io::large_buffer();
-    let mut turns = u64::MAX;
-    while turns > 0 {
-        let n = io::read_full(0, &mut bytes);
-        if n == 0 {
-            break;
-        }
-        s = block(s, &bytes[..n], &mut words);
-        turns -= 1;
+    for b in input.bytes() {
+        s = byte(out, s, b?, &mut words)?;
     }
     let line = s.line;
     if (line.count != 0) | (line.digits != 0) | (line.fault != 0) {
-        damaged(s.number, 11);
+        damaged(out, s.number, 11)?;
     }
+    Ok(())
+}
+
+fn main(rt: HostRuntime) -> io::Result<()> {
+    let input = BufReader::new(rt.alloc(), rt.reader())?;
+    let mut out = BufWriter::new(rt.alloc(), io::writer(&rt))?;
+    replay(input, &mut out)?;
+    out.flush()
 }

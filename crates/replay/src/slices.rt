@@ -1,6 +1,9 @@
 // The slices of a case, lent of its words' numbers. Of our own; nothing is ported.
 ghost use Rattle.std.specs.Prelude.{◌≡◌, length};
 
+use std::io;
+use std::io::Write;
+
 // The numbers of all the words, each at its word's place.
 pub fn numbers(words: &[u64]) -> [f64; 1400]
     ensures { 1400 ≡ length result }
@@ -47,23 +50,28 @@ pub fn number(words: &[u64], held: &[f64], k: usize) -> f64 {
 }
 
 // What slice k holds is written: of numbers that are lent, and of numbers that a call has written.
-pub fn tell(words: &[u64], held: &[f64], k: usize) {
-    case_answers::contents(part(words, held, k));
+pub fn tell<W: Write>(out: &mut W, words: &[u64], held: &[f64], k: usize) -> io::Result<()> {
+    case_answers::contents(out, part(words, held, k))
 }
 
-pub fn told(words: &[u64], own: [f64; 1400], k: usize)
+pub fn told<W: Write>(out: &mut W, words: &[u64], own: [f64; 1400], k: usize) -> io::Result<()>
     requires { 1400 ≡ length own }
 {
-    tell(words, &own, k);
+    tell(out, words, &own, k)
 }
 
 // The same of the slices behind slice k.
-pub fn tell_behind(words: &[u64], held: &[f64], k: usize, slices: usize) {
-    let mut i = k;
-    while i < slices {
-        i += 1;
-        tell(words, held, i);
+pub fn tell_behind<W: Write>(
+    out: &mut W,
+    words: &[u64],
+    held: &[f64],
+    k: usize,
+    slices: usize,
+) -> io::Result<()> {
+    for i in k..slices {
+        tell(out, words, held, i + 1)?;
     }
+    Ok(())
 }
 
 // ---- the slice of the marks, likewise: a mark is its word's last byte
@@ -104,8 +112,8 @@ pub fn marks_mut<'a>(words: &[u64], held: &'a mut [u8], k: usize) -> &'a mut [u8
     &mut held[from..end]
 }
 
-pub fn told_marks(words: &[u64], own: [u8; 1400], k: usize)
+pub fn told_marks<W: Write>(out: &mut W, words: &[u64], own: [u8; 1400], k: usize) -> io::Result<()>
     requires { 1400 ≡ length own }
 {
-    case_answers::marks(marks(words, &own, k));
+    case_answers::marks(out, marks(words, &own, k))
 }

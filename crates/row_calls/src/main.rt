@@ -5,98 +5,100 @@
 
 use answers::{Answer, Margins, Row, Scaling, Standing, Stands, Steps};
 use conelist::{Cone, Kind};
+use std::io;
+use std::io::{BufWriter, Write};
 
 // ---- how an answer is written
 
-fn begin(call: &[u8], k: usize) {
-    show::label(call);
-    show::decimal(k as u64);
-    show::text(b": ");
+fn begin<W: Write>(out: &mut W, call: &[u8], k: usize) -> io::Result<()> {
+    show::label(out, call)?;
+    show::decimal(out, k as u64)?;
+    show::text(out, b": ")
 }
 
-fn say(call: &[u8], k: usize, a: Answer) {
-    begin(call, k);
+fn say<W: Write>(out: &mut W, call: &[u8], k: usize, a: Answer) -> io::Result<()> {
+    begin(out, call, k)?;
     match a {
-        Answer::Done => show::text(b"done"),
-        Answer::Refused(no) => show::refused(no),
+        Answer::Done => show::text(out, b"done"),
+        Answer::Refused(no) => show::refused(out, no),
     }
 }
 
-fn say_scaling(call: &[u8], k: usize, a: Scaling) {
-    begin(call, k);
+fn say_scaling<W: Write>(out: &mut W, call: &[u8], k: usize, a: Scaling) -> io::Result<()> {
+    begin(out, call, k)?;
     match a {
-        Scaling::Truth(t) => {
-            if t {
-                show::text(b"true");
-            } else {
-                show::text(b"false");
-            }
-        }
-        Scaling::Refused(no) => show::refused(no),
+        Scaling::Truth(true) => show::text(out, b"true"),
+        Scaling::Truth(false) => show::text(out, b"false"),
+        Scaling::Refused(no) => show::refused(out, no),
     }
 }
 
-fn say_standing(s: Standing) {
+fn say_standing<W: Write>(out: &mut W, s: Standing) -> io::Result<()> {
     match s {
-        Standing::Inside => show::text(b"inside"),
-        Standing::Edge => show::text(b"edge"),
-        Standing::Outside => show::text(b"outside"),
-        Standing::Mirrored => show::text(b"mirrored"),
-        Standing::NotNumber => show::text(b"not a number"),
+        Standing::Inside => show::text(out, b"inside"),
+        Standing::Edge => show::text(out, b"edge"),
+        Standing::Outside => show::text(out, b"outside"),
+        Standing::Mirrored => show::text(out, b"mirrored"),
+        Standing::NotNumber => show::text(out, b"not a number"),
     }
 }
 
-fn two(a: f64, b: f64) {
-    show::number(a);
-    show::text(b" ");
-    show::number(b);
+fn two<W: Write>(out: &mut W, a: f64, b: f64) -> io::Result<()> {
+    show::number(out, a)?;
+    show::text(out, b" ")?;
+    show::number(out, b)
 }
 
-fn entry(x: f64) {
-    show::text(b" ");
-    show::number(x);
+fn entry<W: Write>(out: &mut W, x: f64) -> io::Result<()> {
+    show::text(out, b" ")?;
+    show::number(out, x)
 }
 
 // What a slice holds, behind a bar.
-fn holds(x: &[f64]) {
-    show::text(b" |");
-    let mut i = 0;
-    while i < x.len() {
-        entry(x[i]);
-        i += 1;
+fn holds<W: Write>(out: &mut W, x: &[f64]) -> io::Result<()> {
+    show::text(out, b" |")?;
+    for y in x {
+        entry(out, *y)?;
     }
+    Ok(())
 }
 
 // The line of a call that writes one buffer.
-fn line(call: &[u8], k: usize, a: Answer, x: &[f64]) {
-    say(call, k, a);
-    holds(x);
-    show::newline();
+fn line<W: Write>(out: &mut W, call: &[u8], k: usize, a: Answer, x: &[f64]) -> io::Result<()> {
+    say(out, call, k, a)?;
+    holds(out, x)?;
+    show::newline(out)
 }
 
 // The three cones' marks, and the line's end.
-fn marked(marks: [u8; 3]) {
-    show::text(b" | ");
-    show::decimal(marks[0] as u64);
-    show::text(b" ");
-    show::decimal(marks[1] as u64);
-    show::text(b" ");
-    show::decimal(marks[2] as u64);
-    show::newline();
+fn marked<W: Write>(out: &mut W, marks: [u8; 3]) -> io::Result<()> {
+    show::text(out, b" | ")?;
+    show::decimal(out, marks[0] as u64)?;
+    show::text(out, b" ")?;
+    show::decimal(out, marks[1] as u64)?;
+    show::text(out, b" ")?;
+    show::decimal(out, marks[2] as u64)?;
+    show::newline(out)
 }
 
 // Five buffers.
-fn five(a: &[f64], b: &[f64], c: &[f64], d: &[f64], e: &[f64]) {
-    holds(a);
-    holds(b);
-    holds(c);
-    holds(d);
-    holds(e);
+fn five<W: Write>(
+    out: &mut W,
+    a: &[f64],
+    b: &[f64],
+    c: &[f64],
+    d: &[f64],
+    e: &[f64],
+) -> io::Result<()> {
+    holds(out, a)?;
+    holds(out, b)?;
+    holds(out, c)?;
+    holds(out, d)?;
+    holds(out, e)
 }
 
-fn holds_row(r: Row) {
-    let entries = r.entries;
-    holds(&entries);
+fn holds_row<W: Write>(out: &mut W, r: &Row) -> io::Result<()> {
+    holds(out, &r.entries)
 }
 
 // ---- the list, and what it is called with
@@ -135,32 +137,32 @@ fn point_ten() -> [f64; 10] {
 
 // ---- the calls
 
-fn margins(first: &[f64]) {
-    begin(b"margins", 2);
+fn margins<W: Write>(out: &mut W, first: &[f64]) -> io::Result<()> {
+    begin(out, b"margins", 2)?;
     match local_calls::margins(row(), 3, 2, first) {
-        Margins::Are(a, b) => two(a, b),
-        Margins::Refused(no) => show::refused(no),
+        Margins::Are(a, b) => two(out, a, b)?,
+        Margins::Refused(no) => show::refused(out, no)?,
     }
-    show::newline();
+    show::newline(out)
 }
 
-fn scaled_unit_shift() {
+fn scaled_unit_shift<W: Write>(out: &mut W) -> io::Result<()> {
     let mut z = first_ten();
     let a = local_calls::scaled_unit_shift(row(), 3, 0, &mut z, 0.5);
-    line(b"scaled_unit_shift", 0, a, &z);
+    line(out, b"scaled_unit_shift", 0, a, &z)
 }
 
-fn unit_initialization() {
+fn unit_initialization<W: Write>(out: &mut W) -> io::Result<()> {
     let mut z = first_ten();
     let mut s = second_ten();
     let a = local_calls::unit_initialization(row(), 3, 1, &mut z, &mut s);
-    say(b"unit_initialization", 1, a);
-    holds(&z);
-    holds(&s);
-    show::newline();
+    say(out, b"unit_initialization", 1, a)?;
+    holds(out, &z)?;
+    holds(out, &s)?;
+    show::newline(out)
 }
 
-fn set_identity_scaling() {
+fn set_identity_scaling<W: Write>(out: &mut W) -> io::Result<()> {
     let mut w = scale_ten();
     let mut u = first_ten();
     let mut v = second_ten();
@@ -178,12 +180,12 @@ fn set_identity_scaling() {
         &mut d,
         &mut marks,
     );
-    say(b"set_identity_scaling", 2, a);
-    five(&w, &u, &v, &eta, &d);
-    marked(marks);
+    say(out, b"set_identity_scaling", 2, a)?;
+    five(out, &w, &u, &v, &eta, &d)?;
+    marked(out, marks)
 }
 
-fn update_scaling(first: &[f64], second: &[f64]) {
+fn update_scaling<W: Write>(out: &mut W, first: &[f64], second: &[f64]) -> io::Result<()> {
     let mut w = scale_ten();
     let mut lambda = point_ten();
     let mut u = first_ten();
@@ -205,31 +207,29 @@ fn update_scaling(first: &[f64], second: &[f64]) {
         &mut d,
         &mut marks,
     );
-    say_scaling(b"update_scaling", 2, a);
-    holds(&w);
-    five(&lambda, &u, &v, &eta, &d);
-    marked(marks);
+    say_scaling(out, b"update_scaling", 2, a)?;
+    holds(out, &w)?;
+    five(out, &lambda, &u, &v, &eta, &d)?;
+    marked(out, marks)
 }
 
-fn get_hs(scale: &[f64]) {
+fn get_hs<W: Write>(out: &mut W, scale: &[f64]) -> io::Result<()> {
     let mut hs = [7.0; 13];
     let a = local_calls::get_hs(row(), 3, 1, &mut hs, scale, &[2.0; 3], &[0.5; 3], &[1; 3]);
-    line(b"get_hs", 1, a, &hs);
+    line(out, b"get_hs", 1, a, &hs)
 }
 
-fn square_hs(scale: &[f64]) {
-    begin(b"square_hs", 1);
+fn square_hs<W: Write>(out: &mut W, scale: &[f64]) -> io::Result<()> {
+    begin(out, b"square_hs", 1)?;
     let got = local_calls::square_hs(row(), 3, 1, scale, &[2.0; 3], &[1; 3]);
-    show::decimal(got.no as u64);
-    let rows = got.rows;
-    holds_row(rows[0]);
-    holds_row(rows[1]);
-    holds_row(rows[2]);
-    holds_row(rows[3]);
-    show::newline();
+    show::decimal(out, got.no as u64)?;
+    for row in &got.rows {
+        holds_row(out, row)?;
+    }
+    show::newline(out)
 }
 
-fn mul_w(second: &[f64], scale: &[f64]) {
+fn mul_w<W: Write>(out: &mut W, second: &[f64], scale: &[f64]) -> io::Result<()> {
     let mut y = first_ten();
     let a = local_calls::mul_w(
         row(),
@@ -243,10 +243,10 @@ fn mul_w(second: &[f64], scale: &[f64]) {
         &[2.0; 3],
         &[1; 3],
     );
-    line(b"mul_w", 2, a, &y);
+    line(out, b"mul_w", 2, a, &y)
 }
 
-fn mul_winv(second: &[f64], scale: &[f64]) {
+fn mul_winv<W: Write>(out: &mut W, second: &[f64], scale: &[f64]) -> io::Result<()> {
     let mut y = first_ten();
     let a = local_calls::mul_winv(
         row(),
@@ -260,46 +260,52 @@ fn mul_winv(second: &[f64], scale: &[f64]) {
         &[2.0; 3],
         &[1; 3],
     );
-    line(b"mul_winv", 1, a, &y);
+    line(out, b"mul_winv", 1, a, &y)
 }
 
-fn mul_hs(second: &[f64], scale: &[f64]) {
+fn mul_hs<W: Write>(out: &mut W, second: &[f64], scale: &[f64]) -> io::Result<()> {
     let mut y = point_ten();
     let a = local_calls::mul_hs(row(), 3, 0, &mut y, second, scale, &[2.0; 3], &[1; 3]);
-    line(b"mul_hs", 0, a, &y);
+    line(out, b"mul_hs", 0, a, &y)
 }
 
-fn circ_op(first: &[f64], second: &[f64]) {
+fn circ_op<W: Write>(out: &mut W, first: &[f64], second: &[f64]) -> io::Result<()> {
     let mut x = point_ten();
     let a = local_calls::circ_op(row(), 3, 1, &mut x, first, second);
-    line(b"circ_op", 1, a, &x);
+    line(out, b"circ_op", 1, a, &x)
 }
 
-fn affine_ds(point: &[f64]) {
+fn affine_ds<W: Write>(out: &mut W, point: &[f64]) -> io::Result<()> {
     let mut ds = first_ten();
     let a = local_calls::affine_ds(row(), 3, 2, &mut ds, point, &[2; 3]);
-    line(b"affine_ds", 2, a, &ds);
+    line(out, b"affine_ds", 2, a, &ds)
 }
 
-fn inv_circ_op(first: &[f64], second: &[f64]) {
+fn inv_circ_op<W: Write>(out: &mut W, first: &[f64], second: &[f64]) -> io::Result<()> {
     let mut x = point_ten();
     let a = local_calls::inv_circ_op(row(), 3, 0, &mut x, first, second);
-    line(b"inv_circ_op", 0, a, &x);
+    line(out, b"inv_circ_op", 0, a, &x)
 }
 
-fn lambda_inv_circ_op(second: &[f64], point: &[f64]) {
+fn lambda_inv_circ_op<W: Write>(out: &mut W, second: &[f64], point: &[f64]) -> io::Result<()> {
     let mut x = first_ten();
     let a = local_calls::lambda_inv_circ_op(row(), 3, 1, &mut x, second, point, &[2; 3]);
-    line(b"lambda_inv_circ_op", 1, a, &x);
+    line(out, b"lambda_inv_circ_op", 1, a, &x)
 }
 
-fn ds_from_dz_offset(first: &[f64], second: &[f64], scale: &[f64], point: &[f64]) {
-    let mut out = first_ten();
+fn ds_from_dz_offset<W: Write>(
+    out: &mut W,
+    first: &[f64],
+    second: &[f64],
+    scale: &[f64],
+    point: &[f64],
+) -> io::Result<()> {
+    let mut ds = first_ten();
     let a = local_calls::ds_from_dz_offset(
         row(),
         3,
         1,
-        &mut out,
+        &mut ds,
         second,
         first,
         scale,
@@ -307,10 +313,10 @@ fn ds_from_dz_offset(first: &[f64], second: &[f64], scale: &[f64], point: &[f64]
         &[2.0; 3],
         &[2; 3],
     );
-    line(b"ds_from_dz_offset", 1, a, &out);
+    line(out, b"ds_from_dz_offset", 1, a, &ds)
 }
 
-fn combined_ds_shift(scale: &[f64]) {
+fn combined_ds_shift<W: Write>(out: &mut W, scale: &[f64]) -> io::Result<()> {
     let mut shift = point_ten();
     let mut step_z = first_ten();
     let mut step_s = second_ten();
@@ -326,52 +332,66 @@ fn combined_ds_shift(scale: &[f64]) {
         &[2.0; 3],
         &[1; 3],
     );
-    say(b"combined_ds_shift", 2, a);
-    holds(&shift);
-    holds(&step_z);
-    holds(&step_s);
-    show::newline();
+    say(out, b"combined_ds_shift", 2, a)?;
+    holds(out, &shift)?;
+    holds(out, &step_z)?;
+    holds(out, &step_s)?;
+    show::newline(out)
 }
 
-fn step_length(first: &[f64], second: &[f64]) {
-    begin(b"step_length", 1);
+fn step_length<W: Write>(out: &mut W, first: &[f64], second: &[f64]) -> io::Result<()> {
+    begin(out, b"step_length", 1)?;
     match local_calls::step_length(row(), 3, 1, &[-1.0; 10], &[-2.0; 10], first, second, 10.0) {
-        Steps::Lengths(pair) => two(pair.z, pair.s),
-        Steps::Refused(no) => show::refused(no),
+        Steps::Lengths(pair) => two(out, pair.z, pair.s)?,
+        Steps::Refused(no) => show::refused(out, no)?,
     }
-    show::newline();
+    show::newline(out)
 }
 
-fn standing(first: &[f64]) {
-    begin(b"standing", 2);
+fn standing<W: Write>(out: &mut W, first: &[f64]) -> io::Result<()> {
+    begin(out, b"standing", 2)?;
     match local_calls::standing(row(), 3, 2, first) {
-        Stands::As(s) => say_standing(s),
-        Stands::Refused(no) => show::refused(no),
+        Stands::As(s) => say_standing(out, s)?,
+        Stands::Refused(no) => show::refused(out, no)?,
     }
-    show::newline();
+    show::newline(out)
 }
 
-fn calls(first: &[f64], second: &[f64], scale: &[f64], point: &[f64]) {
-    margins(first);
-    scaled_unit_shift();
-    unit_initialization();
-    set_identity_scaling();
-    update_scaling(first, second);
-    get_hs(scale);
-    square_hs(scale);
-    mul_w(second, scale);
-    mul_winv(second, scale);
-    mul_hs(second, scale);
-    circ_op(first, second);
-    affine_ds(point);
-    inv_circ_op(first, second);
-    lambda_inv_circ_op(second, point);
-    ds_from_dz_offset(first, second, scale, point);
-    combined_ds_shift(scale);
-    step_length(first, second);
-    standing(first);
+fn calls<W: Write>(
+    out: &mut W,
+    first: &[f64],
+    second: &[f64],
+    scale: &[f64],
+    point: &[f64],
+) -> io::Result<()> {
+    margins(out, first)?;
+    scaled_unit_shift(out)?;
+    unit_initialization(out)?;
+    set_identity_scaling(out)?;
+    update_scaling(out, first, second)?;
+    get_hs(out, scale)?;
+    square_hs(out, scale)?;
+    mul_w(out, second, scale)?;
+    mul_winv(out, second, scale)?;
+    mul_hs(out, second, scale)?;
+    circ_op(out, first, second)?;
+    affine_ds(out, point)?;
+    inv_circ_op(out, first, second)?;
+    lambda_inv_circ_op(out, second, point)?;
+    ds_from_dz_offset(out, first, second, scale, point)?;
+    combined_ds_shift(out, scale)?;
+    step_length(out, first, second)?;
+    standing(out, first)
 }
 
-fn main() {
-    calls(&first_ten(), &second_ten(), &scale_ten(), &point_ten());
+fn main(rt: HostRuntime) -> io::Result<()> {
+    let mut out = BufWriter::new(rt.alloc(), io::writer(&rt))?;
+    calls(
+        &mut out,
+        &first_ten(),
+        &second_ten(),
+        &scale_ten(),
+        &point_ten(),
+    )?;
+    out.flush()
 }

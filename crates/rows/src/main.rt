@@ -7,56 +7,55 @@ ghost use Rattle.std.specs.Prelude.{◌≤◌, ◌+◌};
 
 use answers::{Answer, Margins, Scaling, Scalings, Steps};
 use conelist::{Cone, Kind};
+use std::io;
+use std::io::{BufWriter, Write};
 
 // ---- how an answer is written
 
-fn told(a: Answer) {
+fn told<W: Write>(out: &mut W, a: Answer) -> io::Result<()> {
     match a {
-        Answer::Done => show::text(b"done"),
-        Answer::Refused(no) => show::refused(no),
+        Answer::Done => show::text(out, b"done"),
+        Answer::Refused(no) => show::refused(out, no),
     }
 }
 
-fn say(a: Answer) {
-    told(a);
-    show::newline();
+fn say<W: Write>(out: &mut W, a: Answer) -> io::Result<()> {
+    told(out, a)?;
+    show::newline(out)
 }
 
-fn say_scaling(a: Scaling) {
+fn two<W: Write>(out: &mut W, a: f64, b: f64) -> io::Result<()> {
+    show::number(out, a)?;
+    show::text(out, b" ")?;
+    show::number(out, b)
+}
+
+fn say_scaling<W: Write>(out: &mut W, a: Scaling) -> io::Result<()> {
     match a {
-        Scaling::Truth(t) => {
-            if t {
-                show::text(b"true");
-            } else {
-                show::text(b"false");
-            }
-        }
-        Scaling::Refused(no) => show::refused(no),
+        Scaling::Truth(true) => show::text(out, b"true")?,
+        Scaling::Truth(false) => show::text(out, b"false")?,
+        Scaling::Refused(no) => show::refused(out, no)?,
     }
-    show::newline();
+    show::newline(out)
 }
 
-fn say_scalings(a: Scalings) {
+fn say_scalings<W: Write>(out: &mut W, a: Scalings) -> io::Result<()> {
     match a {
-        Scalings::AllTrue => show::text(b"true"),
+        Scalings::AllTrue => show::text(out, b"true"),
         Scalings::FalseAt(k) => {
-            show::text(b"false at ");
-            show::decimal(k as u64);
+            show::text(out, b"false at ")?;
+            show::decimal(out, k as u64)
         }
-        Scalings::Refused(no) => show::refused(no),
+        Scalings::Refused(no) => show::refused(out, no),
     }
 }
 
-fn say_steps(a: Steps) {
+fn say_steps<W: Write>(out: &mut W, a: Steps) -> io::Result<()> {
     match a {
-        Steps::Lengths(pair) => {
-            show::number(pair.z);
-            show::text(b" ");
-            show::number(pair.s);
-        }
-        Steps::Refused(no) => show::refused(no),
+        Steps::Lengths(pair) => two(out, pair.z, pair.s)?,
+        Steps::Refused(no) => show::refused(out, no)?,
     }
-    show::newline();
+    show::newline(out)
 }
 
 // ---- rows of cones, of which the first so many are lent
@@ -96,98 +95,113 @@ fn ten() -> [Cone; 257] {
 // ---- a row is taken, or refused
 
 // The margins of cone k, where every entry is 1, of ten entries in all.
-fn line(of: &[u8], list: [Cone; 257], cones: usize, k: usize) {
-    show::label(of);
+fn line<W: Write>(
+    out: &mut W,
+    of: &[u8],
+    list: [Cone; 257],
+    cones: usize,
+    k: usize,
+) -> io::Result<()> {
+    show::label(out, of)?;
     match list_margins::margins_at(local_rows::place_in(list, cones, k), &[1.0; 10]) {
-        Margins::Are(a, b) => {
-            show::number(a);
-            show::text(b" ");
-            show::number(b);
-        }
-        Margins::Refused(no) => show::refused(no),
+        Margins::Are(a, b) => two(out, a, b)?,
+        Margins::Refused(no) => show::refused(out, no)?,
     }
-    show::newline();
+    show::newline(out)
 }
 
-fn taken() {
-    line(b"cone 0 of three", ten(), 3, 0);
-    line(b"cone 1 of three", ten(), 3, 1);
-    line(b"cone 2 of three", ten(), 3, 2);
-    line(b"cone 3 of three", ten(), 3, 3);
-    line(b"cone 0 of two, the buffer too long", ten(), 2, 0);
+fn taken<W: Write>(out: &mut W) -> io::Result<()> {
+    line(out, b"cone 0 of three", ten(), 3, 0)?;
+    line(out, b"cone 1 of three", ten(), 3, 1)?;
+    line(out, b"cone 2 of three", ten(), 3, 2)?;
+    line(out, b"cone 3 of three", ten(), 3, 3)?;
+    line(out, b"cone 0 of two, the buffer too long", ten(), 2, 0)
 }
 
 // One cone alone.
-fn alone(of: &[u8], first: Cone) {
-    line(of, three(first, nonnegative(0, 0), nonnegative(0, 0)), 1, 0);
+fn alone<W: Write>(out: &mut W, of: &[u8], first: Cone) -> io::Result<()> {
+    line(
+        out,
+        of,
+        three(first, nonnegative(0, 0), nonnegative(0, 0)),
+        1,
+        0,
+    )
 }
 
-fn first_records() {
-    alone(b"start 1 at the first record", nonnegative(1, 10));
-    alone(b"second-order of dimension 1", second_order(0, 1));
-    alone(b"second-order of dimension 4,097", second_order(0, 4097));
-    alone(b"nonnegative of dimension 4,097", nonnegative(0, 4097));
-    alone(b"second-order of dimension 10", second_order(0, 10));
+fn first_records<W: Write>(out: &mut W) -> io::Result<()> {
+    alone(out, b"start 1 at the first record", nonnegative(1, 10))?;
+    alone(out, b"second-order of dimension 1", second_order(0, 1))?;
+    alone(
+        out,
+        b"second-order of dimension 4,097",
+        second_order(0, 4097),
+    )?;
+    alone(out, b"nonnegative of dimension 4,097", nonnegative(0, 4097))?;
+    alone(out, b"second-order of dimension 10", second_order(0, 10))
 }
 
-fn later(of: &[u8], second: Cone, third: Cone, k: usize) {
-    line(of, three(nonnegative(0, 2), second, third), 3, k);
+fn later<W: Write>(out: &mut W, of: &[u8], second: Cone, third: Cone, k: usize) -> io::Result<()> {
+    line(out, of, three(nonnegative(0, 2), second, third), 3, k)
 }
 
-fn later_records() {
+fn later_records<W: Write>(out: &mut W) -> io::Result<()> {
     later(
+        out,
         b"start off by one at the third",
         second_order(2, 3),
         second_order(6, 5),
         0,
-    );
+    )?;
     later(
+        out,
         b"start off, then dimension 1",
         second_order(3, 3),
         second_order(6, 1),
         0,
-    );
+    )?;
     later(
+        out,
         b"dimension 1, then start off",
         second_order(2, 1),
         second_order(6, 5),
         0,
-    );
+    )?;
     later(
+        out,
         b"start off, and no such cone",
         second_order(3, 3),
         second_order(6, 4),
         9,
-    );
+    )
 }
 
-fn counts() {
-    line(b"no cones", empty(), 0, 0);
-    line(b"256 cones, the buffer too long", empty(), 256, 255);
-    line(b"257 cones", empty(), 257, 0);
+fn counts<W: Write>(out: &mut W) -> io::Result<()> {
+    line(out, b"no cones", empty(), 0, 0)?;
+    line(out, b"256 cones, the buffer too long", empty(), 256, 255)?;
+    line(out, b"257 cones", empty(), 257, 0)?;
     line(
+        out,
         b"257 cones, all out of range",
         [second_order(0, 1); 257],
         257,
         0,
-    );
+    )
 }
 
 // Sixteen cones of 4,096 entries are 65,536; then a cone of so many entries.
-fn full(of: &[u8], n: usize) {
+fn full<W: Write>(out: &mut W, of: &[u8], n: usize) -> io::Result<()> {
     let mut list = empty();
-    let mut i = 0;
-    while i < 16 {
+    for i in 0..16 {
         list[i] = nonnegative(4096 * i, 4096);
-        i += 1;
     }
     list[16] = nonnegative(65536, n);
-    line(of, list, 17, 0);
+    line(out, of, list, 17, 0)
 }
 
-fn totals() {
-    full(b"65,536 entries, the buffer too short", 0);
-    full(b"65,537 entries", 1);
+fn totals<W: Write>(out: &mut W) -> io::Result<()> {
+    full(out, b"65,536 entries, the buffer too short", 0)?;
+    full(out, b"65,537 entries", 1)
 }
 
 // ---- each buffer one too short and one too long
@@ -203,10 +217,10 @@ fn long(meant: usize, at: usize, n: usize, more: usize) -> usize
 }
 
 // Scaling of cone 1 of three, ten entries in all; `meant` counts s, z, w, lambda, u, v, eta, d, marks.
-fn scale(of: &[u8], meant: usize, more: usize)
+fn scale<W: Write>(out: &mut W, of: &[u8], meant: usize, more: usize) -> io::Result<()>
     requires { more ≤ 2 }
 {
-    show::label(of);
+    show::label(out, of)?;
     let s = [1.0, 1.0, 5.0, 3.0, 0.0, 1.0, 1.0, 1.0, 1.0, 1.0, 1.0];
     let z = s;
     let mut w = [0.0; 11];
@@ -225,73 +239,79 @@ fn scale(of: &[u8], meant: usize, more: usize)
     let in_eta = long(meant, 6, 3, more);
     let in_d = long(meant, 7, 3, more);
     let in_marks = long(meant, 8, 3, more);
-    say_scaling(list_scaling::update_scaling_at(
-        local_rows::place_in(ten(), 3, 1),
-        &s[..in_s],
-        &z[..in_z],
-        &mut w[..in_w],
-        &mut lambda[..in_lambda],
-        &mut u[..in_u],
-        &mut v[..in_v],
-        &mut eta[..in_eta],
-        &mut d[..in_d],
-        &mut marks[..in_marks],
-    ));
+    say_scaling(
+        out,
+        list_scaling::update_scaling_at(
+            local_rows::place_in(ten(), 3, 1),
+            &s[..in_s],
+            &z[..in_z],
+            &mut w[..in_w],
+            &mut lambda[..in_lambda],
+            &mut u[..in_u],
+            &mut v[..in_v],
+            &mut eta[..in_eta],
+            &mut d[..in_d],
+            &mut marks[..in_marks],
+        ),
+    )
 }
 
-fn scalings() {
-    scale(b"scaling, s one short", 0, 0);
-    scale(b"scaling, s one long", 0, 2);
-    scale(b"scaling, z one short", 1, 0);
-    scale(b"scaling, z one long", 1, 2);
-    scale(b"scaling, w one short", 2, 0);
-    scale(b"scaling, w one long", 2, 2);
-    scale(b"scaling, lambda one short", 3, 0);
-    scale(b"scaling, lambda one long", 3, 2);
+fn scalings<W: Write>(out: &mut W) -> io::Result<()> {
+    scale(out, b"scaling, s one short", 0, 0)?;
+    scale(out, b"scaling, s one long", 0, 2)?;
+    scale(out, b"scaling, z one short", 1, 0)?;
+    scale(out, b"scaling, z one long", 1, 2)?;
+    scale(out, b"scaling, w one short", 2, 0)?;
+    scale(out, b"scaling, w one long", 2, 2)?;
+    scale(out, b"scaling, lambda one short", 3, 0)?;
+    scale(out, b"scaling, lambda one long", 3, 2)
 }
 
-fn more_scalings() {
-    scale(b"scaling, u one short", 4, 0);
-    scale(b"scaling, u one long", 4, 2);
-    scale(b"scaling, v one short", 5, 0);
-    scale(b"scaling, v one long", 5, 2);
-    scale(b"scaling, eta one short", 6, 0);
-    scale(b"scaling, eta one long", 6, 2);
-    scale(b"scaling, d one short", 7, 0);
-    scale(b"scaling, d one long", 7, 2);
-    scale(b"scaling, marks one short", 8, 0);
-    scale(b"scaling, marks one long", 8, 2);
-    scale(b"scaling, all of their lengths", 9, 0);
+fn more_scalings<W: Write>(out: &mut W) -> io::Result<()> {
+    scale(out, b"scaling, u one short", 4, 0)?;
+    scale(out, b"scaling, u one long", 4, 2)?;
+    scale(out, b"scaling, v one short", 5, 0)?;
+    scale(out, b"scaling, v one long", 5, 2)?;
+    scale(out, b"scaling, eta one short", 6, 0)?;
+    scale(out, b"scaling, eta one long", 6, 2)?;
+    scale(out, b"scaling, d one short", 7, 0)?;
+    scale(out, b"scaling, d one long", 7, 2)?;
+    scale(out, b"scaling, marks one short", 8, 0)?;
+    scale(out, b"scaling, marks one long", 8, 2)?;
+    scale(out, b"scaling, all of their lengths", 9, 0)
 }
 
 // The blocks of the same three cones have 2 + 6 + 5 numbers.
-fn block(of: &[u8], more: usize, mark: u8)
+fn block<W: Write>(out: &mut W, of: &[u8], more: usize, mark: u8) -> io::Result<()>
     requires { more ≤ 2 }
 {
-    show::label(of);
+    show::label(out, of)?;
     let mut hs = [0.0; 14];
     let in_hs = long(0, 0, 13, more);
-    say(list_blocks::get_hs_at(
-        local_rows::place_in(ten(), 3, 1),
-        &mut hs[..in_hs],
-        &[1.0; 10],
-        &[1.0; 3],
-        &[1.0; 3],
-        &[mark; 3],
-    ));
+    say(
+        out,
+        list_blocks::get_hs_at(
+            local_rows::place_in(ten(), 3, 1),
+            &mut hs[..in_hs],
+            &[1.0; 10],
+            &[1.0; 3],
+            &[1.0; 3],
+            &[mark; 3],
+        ),
+    )
 }
 
-fn blocks() {
-    block(b"blocks, hs one short", 0, 1);
-    block(b"blocks, hs of its length", 1, 1);
-    block(b"blocks, hs one long", 2, 1);
-    block(b"blocks, hs one short, a fresh cone", 0, 0);
+fn blocks<W: Write>(out: &mut W) -> io::Result<()> {
+    block(out, b"blocks, hs one short", 0, 1)?;
+    block(out, b"blocks, hs of its length", 1, 1)?;
+    block(out, b"blocks, hs one long", 2, 1)?;
+    block(out, b"blocks, hs one short, a fresh cone", 0, 0)
 }
 
 // ---- the square block
 
-fn square(of: &[u8], k: usize, mark: u8) {
-    show::label(of);
+fn square<W: Write>(out: &mut W, of: &[u8], k: usize, mark: u8) -> io::Result<()> {
+    show::label(out, of)?;
     let list = three(nonnegative(0, 2), second_order(2, 4), second_order(6, 5));
     let got = list_square::square_hs_at(
         local_rows::place_in(list, 3, k),
@@ -299,25 +319,25 @@ fn square(of: &[u8], k: usize, mark: u8) {
         &[1.0; 3],
         &[mark; 3],
     );
-    show::decimal(got.no as u64);
-    show::text(b" ");
+    show::decimal(out, got.no as u64)?;
+    show::text(out, b" ")?;
     let rows = got.rows;
     let row = rows[0];
     let first = row.entries;
     let row = rows[3];
     let last = row.entries;
-    show::number(first[0]);
-    show::text(b" ");
-    show::number(last[2]);
-    show::newline();
+    show::number(out, first[0])?;
+    show::text(out, b" ")?;
+    show::number(out, last[2])?;
+    show::newline(out)
 }
 
-fn squares() {
-    square(b"square block, nonnegative", 0, 1);
-    square(b"square block, dimension 4", 1, 1);
-    square(b"square block, dimension 5", 2, 1);
-    square(b"square block, dimension 4, a fresh cone", 1, 0);
-    square(b"square block, dimension 5, a fresh cone", 2, 0);
+fn squares<W: Write>(out: &mut W) -> io::Result<()> {
+    square(out, b"square block, nonnegative", 0, 1)?;
+    square(out, b"square block, dimension 4", 1, 1)?;
+    square(out, b"square block, dimension 5", 2, 1)?;
+    square(out, b"square block, dimension 4, a fresh cone", 1, 0)?;
+    square(out, b"square block, dimension 5, a fresh cone", 2, 0)
 }
 
 // ---- steps, of one cone and of the list
@@ -327,60 +347,82 @@ fn four() -> [Cone; 257] {
     three(nonnegative(0, 2), second_order(2, 2), nonnegative(4, 0))
 }
 
-fn step(of: &[u8], limit: f64) {
-    show::label(of);
+fn step<W: Write>(out: &mut W, of: &[u8], limit: f64) -> io::Result<()> {
+    show::label(out, of)?;
     let x = [4.0, 9.0, 5.0, 0.0];
     let y = [-1.0, -3.0, 0.0, 1.0];
-    say_steps(list_step::step_length_at(local_rows::place_in(four(), 3, 1), &y, &y, &x, &x, limit));
+    say_steps(
+        out,
+        list_step::step_length_at(local_rows::place_in(four(), 3, 1), &y, &y, &x, &x, limit),
+    )
 }
 
-fn steps() {
-    step(b"step, limit 10", 10.0);
-    step(b"step, limit NaN", 0.0 / 0.0);
-    step(b"step, limit -1", -1.0);
-    step(b"step, limit -0", -0.0);
-    step(b"step, limit infinity", 1.0 / 0.0);
+fn steps<W: Write>(out: &mut W) -> io::Result<()> {
+    step(out, b"step, limit 10", 10.0)?;
+    step(out, b"step, limit NaN", 0.0 / 0.0)?;
+    step(out, b"step, limit -1", -1.0)?;
+    step(out, b"step, limit -0", -0.0)?;
+    step(out, b"step, limit infinity", 1.0 / 0.0)
 }
 
 // The s side goes nowhere.
-fn whole(of: &[u8], list: [Cone; 257], cones: usize, limit: f64) {
-    show::label(of);
+fn whole<W: Write>(
+    out: &mut W,
+    of: &[u8],
+    list: [Cone; 257],
+    cones: usize,
+    limit: f64,
+) -> io::Result<()> {
+    show::label(out, of)?;
     let x = [4.0, 9.0, 5.0, 0.0];
     let y = [-1.0, -3.0, 0.0, 1.0];
-    say_steps(local_rows::list_step_in(list, cones, &y, &[0.0; 4], &x, &x, limit));
+    say_steps(
+        out,
+        local_rows::list_step_in(list, cones, &y, &[0.0; 4], &x, &x, limit),
+    )
 }
 
-fn wholes() {
-    whole(b"list step, limit 10", four(), 3, 10.0);
-    whole(b"list step, limit 2", four(), 3, 2.0);
-    whole(b"list step, a buffer too long", four(), 1, 10.0);
-    whole(b"list step, limit -1", four(), 3, -1.0);
-    whole(b"list step, a start off", ten(), 4, -1.0);
+fn wholes<W: Write>(out: &mut W) -> io::Result<()> {
+    whole(out, b"list step, limit 10", four(), 3, 10.0)?;
+    whole(out, b"list step, limit 2", four(), 3, 2.0)?;
+    whole(out, b"list step, a buffer too long", four(), 1, 10.0)?;
+    whole(out, b"list step, limit -1", four(), 3, -1.0)?;
+    whole(out, b"list step, a start off", ten(), 4, -1.0)
 }
 
 // An empty list gives the limit twice.
-fn nothing() {
-    show::label(b"list step of no cones, limit 7");
+fn nothing<W: Write>(out: &mut W) -> io::Result<()> {
+    show::label(out, b"list step of no cones, limit 7")?;
     let none: [f64; 0] = [];
-    say_steps(local_rows::list_step_in(empty(), 0, &none, &none, &none, &none, 7.0));
+    say_steps(
+        out,
+        local_rows::list_step_in(empty(), 0, &none, &none, &none, &none, 7.0),
+    )
 }
 
 // ---- the scaling of the whole list
 
 // Three marks, and the line's end.
-fn said(marks: [u8; 3]) {
-    show::text(b" | ");
-    show::decimal(marks[0] as u64);
-    show::text(b" ");
-    show::decimal(marks[1] as u64);
-    show::text(b" ");
-    show::decimal(marks[2] as u64);
-    show::newline();
+fn said<W: Write>(out: &mut W, marks: [u8; 3]) -> io::Result<()> {
+    show::text(out, b" | ")?;
+    show::decimal(out, marks[0] as u64)?;
+    show::text(out, b" ")?;
+    show::decimal(out, marks[1] as u64)?;
+    show::text(out, b" ")?;
+    show::decimal(out, marks[2] as u64)?;
+    show::newline(out)
 }
 
 // Behind the answer, of the first three cones, what eta, the first entries of w and the marks hold: 9, 7 and 0, 1, 3 where they are not written.
-fn scaled(of: &[u8], list: [Cone; 257], cones: usize, s: [f64; 6], z: [f64; 6]) {
-    show::label(of);
+fn scaled<W: Write>(
+    out: &mut W,
+    of: &[u8],
+    list: [Cone; 257],
+    cones: usize,
+    s: [f64; 6],
+    z: [f64; 6],
+) -> io::Result<()> {
+    show::label(out, of)?;
     let mut w = [7.0; 6];
     let mut lambda = [7.0; 6];
     let mut u = [7.0; 6];
@@ -388,32 +430,35 @@ fn scaled(of: &[u8], list: [Cone; 257], cones: usize, s: [f64; 6], z: [f64; 6]) 
     let mut eta = [9.0; 3];
     let mut d = [9.0; 3];
     let mut marks = [0, 1, 3];
-    say_scalings(local_rows::list_scaling_in(
-        list,
-        cones,
-        &s,
-        &z,
-        &mut w,
-        &mut lambda,
-        &mut u,
-        &mut v,
-        &mut eta,
-        &mut d,
-        &mut marks,
-    ));
-    show::text(b" | ");
-    show::number(eta[0]);
-    show::text(b" ");
-    show::number(eta[1]);
-    show::text(b" ");
-    show::number(eta[2]);
-    show::text(b" | ");
-    show::number(w[0]);
-    show::text(b" ");
-    show::number(w[2]);
-    show::text(b" ");
-    show::number(w[4]);
-    said(marks);
+    say_scalings(
+        out,
+        local_rows::list_scaling_in(
+            list,
+            cones,
+            &s,
+            &z,
+            &mut w,
+            &mut lambda,
+            &mut u,
+            &mut v,
+            &mut eta,
+            &mut d,
+            &mut marks,
+        ),
+    )?;
+    show::text(out, b" | ")?;
+    show::number(out, eta[0])?;
+    show::text(out, b" ")?;
+    show::number(out, eta[1])?;
+    show::text(out, b" ")?;
+    show::number(out, eta[2])?;
+    show::text(out, b" | ")?;
+    show::number(out, w[0])?;
+    show::text(out, b" ")?;
+    show::number(out, w[2])?;
+    show::text(out, b" ")?;
+    show::number(out, w[4])?;
+    said(out, marks)
 }
 
 fn pairs() -> [Cone; 257] {
@@ -421,57 +466,75 @@ fn pairs() -> [Cone; 257] {
 }
 
 // (5, 3) lies inside; s (1, 1) gives an early false, s (2, 0) with z (-2, 0) a late one; neither writes.
-fn scaled_lines() {
+fn scaled_lines<W: Write>(out: &mut W) -> io::Result<()> {
     let inside = [5.0, 3.0, 5.0, 3.0, 5.0, 3.0];
     let early = [5.0, 3.0, 1.0, 1.0, 5.0, 3.0];
     let late = [5.0, 3.0, 2.0, 0.0, 5.0, 3.0];
     let turned = [5.0, 3.0, -2.0, 0.0, 5.0, 3.0];
-    scaled(b"list scaling, all true", pairs(), 3, inside, inside);
-    scaled(b"list scaling, early false", pairs(), 3, early, inside);
-    scaled(b"list scaling, late false", pairs(), 3, late, turned);
+    scaled(out, b"list scaling, all true", pairs(), 3, inside, inside)?;
+    scaled(out, b"list scaling, early false", pairs(), 3, early, inside)?;
+    scaled(out, b"list scaling, late false", pairs(), 3, late, turned)?;
     scaled(
+        out,
         b"list scaling, a buffer too long",
         pairs(),
         2,
         inside,
         inside,
-    );
+    )
 }
 
-fn scaled_edges() {
+fn scaled_edges<W: Write>(out: &mut W) -> io::Result<()> {
     let inside = [5.0, 3.0, 5.0, 3.0, 5.0, 3.0];
     let first = [1.0, 1.0, 5.0, 3.0, 5.0, 3.0];
     let last = [5.0, 3.0, 5.0, 3.0, 1.0, 1.0];
     scaled(
+        out,
         b"list scaling, false at the first",
         pairs(),
         3,
         first,
         inside,
-    );
-    scaled(b"list scaling, false at the last", pairs(), 3, last, inside);
+    )?;
+    scaled(
+        out,
+        b"list scaling, false at the last",
+        pairs(),
+        3,
+        last,
+        inside,
+    )?;
     let short = three(second_order(0, 2), second_order(2, 2), second_order(4, 1));
     scaled(
+        out,
         b"list scaling, dimension 1 at the last",
         short,
         3,
         inside,
         inside,
-    );
+    )?;
     let off = three(second_order(0, 2), second_order(2, 2), second_order(5, 2));
     scaled(
+        out,
         b"list scaling, start off at the last",
         off,
         3,
         inside,
         inside,
-    );
-    scaled(b"list scaling, 257 cones", empty(), 257, inside, inside);
+    )?;
+    scaled(
+        out,
+        b"list scaling, 257 cones",
+        empty(),
+        257,
+        inside,
+        inside,
+    )
 }
 
 // An empty list answers true.
-fn scaled_nothing(of: &[u8], s: &[f64]) {
-    show::label(of);
+fn scaled_nothing<W: Write>(out: &mut W, of: &[u8], s: &[f64]) -> io::Result<()> {
+    show::label(out, of)?;
     let none: [f64; 0] = [];
     let mut w: [f64; 0] = [];
     let mut lambda: [f64; 0] = [];
@@ -480,77 +543,95 @@ fn scaled_nothing(of: &[u8], s: &[f64]) {
     let mut eta: [f64; 0] = [];
     let mut d: [f64; 0] = [];
     let mut marks: [u8; 0] = [];
-    say_scalings(local_rows::list_scaling_in(
-        empty(),
-        0,
-        s,
-        &none,
-        &mut w,
-        &mut lambda,
-        &mut u,
-        &mut v,
-        &mut eta,
-        &mut d,
-        &mut marks,
-    ));
-    show::newline();
+    say_scalings(
+        out,
+        local_rows::list_scaling_in(
+            empty(),
+            0,
+            s,
+            &none,
+            &mut w,
+            &mut lambda,
+            &mut u,
+            &mut v,
+            &mut eta,
+            &mut d,
+            &mut marks,
+        ),
+    )?;
+    show::newline(out)
 }
 
 // ---- marks: 0 is fresh, 1 identity, 2 scaled, and any other counts as fresh
 
 // Of ten entries in all: the product of a second-order cone, its affine_ds and its offset, and a nonnegative cone's offset.
-fn reads(of: &[u8], mark: u8) {
-    show::label(of);
+fn reads<W: Write>(out: &mut W, of: &[u8], mark: u8) -> io::Result<()> {
+    show::label(out, of)?;
     let x = [5.0; 10];
     let eta = [1.0; 3];
     let marks = [mark; 3];
     let mut y = [0.0; 10];
     let p = local_rows::place_in(ten(), 3, 1);
-    told(list_mul_hs::mul_hs_at(p, &mut y, &x, &x, &eta, &marks));
-    show::text(b" | ");
-    told(list_jordan::affine_ds_at(p, &mut y, &x, &marks));
-    show::text(b" | ");
-    told(list_shifts::ds_from_dz_offset_at(p, &mut y, &x, &x, &x, &x, &eta, &marks));
-    show::text(b" | ");
+    told(out, list_mul_hs::mul_hs_at(p, &mut y, &x, &x, &eta, &marks))?;
+    show::text(out, b" | ")?;
+    told(out, list_jordan::affine_ds_at(p, &mut y, &x, &marks))?;
+    show::text(out, b" | ")?;
+    told(
+        out,
+        list_shifts::ds_from_dz_offset_at(p, &mut y, &x, &x, &x, &x, &eta, &marks),
+    )?;
+    show::text(out, b" | ")?;
     let q = local_rows::place_in(ten(), 3, 0);
-    say(list_shifts::ds_from_dz_offset_at(q, &mut y, &x, &x, &x, &x, &eta, &marks));
+    say(
+        out,
+        list_shifts::ds_from_dz_offset_at(q, &mut y, &x, &x, &x, &x, &eta, &marks),
+    )
 }
 
-fn marked() {
-    reads(b"a fresh cone", 0);
-    reads(b"an identity cone", 1);
-    reads(b"a scaled cone", 2);
-    reads(b"mark 3", 3);
-    reads(b"mark 255", 255);
+fn marked<W: Write>(out: &mut W) -> io::Result<()> {
+    reads(out, b"a fresh cone", 0)?;
+    reads(out, b"an identity cone", 1)?;
+    reads(out, b"a scaled cone", 2)?;
+    reads(out, b"mark 3", 3)?;
+    reads(out, b"mark 255", 255)
 }
 
 // A nonnegative cone's offset reads no mark, but the marks' length is tested.
-fn short_marks() {
-    show::label(b"nonnegative offset, marks one short");
+fn short_marks<W: Write>(out: &mut W) -> io::Result<()> {
+    show::label(out, b"nonnegative offset, marks one short")?;
     let x = [5.0; 10];
     let mut y = [0.0; 10];
     let p = local_rows::place_in(ten(), 3, 0);
-    say(list_shifts::ds_from_dz_offset_at(p, &mut y, &x, &x, &x, &x, &[1.0; 3], &[2; 2]));
+    say(
+        out,
+        list_shifts::ds_from_dz_offset_at(p, &mut y, &x, &x, &x, &x, &[1.0; 3], &[2; 2]),
+    )
 }
 
-fn main() {
-    taken();
-    first_records();
-    later_records();
-    counts();
-    totals();
-    scalings();
-    more_scalings();
-    blocks();
-    squares();
-    steps();
-    wholes();
-    nothing();
-    scaled_lines();
-    scaled_edges();
+fn lines<W: Write>(out: &mut W) -> io::Result<()> {
+    taken(out)?;
+    first_records(out)?;
+    later_records(out)?;
+    counts(out)?;
+    totals(out)?;
+    scalings(out)?;
+    more_scalings(out)?;
+    blocks(out)?;
+    squares(out)?;
+    steps(out)?;
+    wholes(out)?;
+    nothing(out)?;
+    scaled_lines(out)?;
+    scaled_edges(out)?;
     let none: [f64; 0] = [];
-    scaled_nothing(b"list scaling of no cones", &none);
-    scaled_nothing(b"list scaling of no cones, s one long", &[1.0]);
-    marked();
-    short_marks();
+    scaled_nothing(out, b"list scaling of no cones", &none)?;
+    scaled_nothing(out, b"list scaling of no cones, s one long", &[1.0])?;
+    marked(out)?;
+    short_marks(out)
+}
+
+fn main(rt: HostRuntime) -> io::Result<()> {
+    let mut out = BufWriter::new(rt.alloc(), io::writer(&rt))?;
+    lines(&mut out)?;
+    out.flush()
 }

@@ -1,12 +1,16 @@
 // What our programs print: texts, whole numbers, doubles. Of our own; nothing is ported.
 //
 // No contract can say what is written. So how a double is told is a value, which `spell` gives with
-// its promise; a function that prints promises no more than that it ends.
+// its promise; a function that prints promises no more than that it ends, and passes on the error of
+// a writer that takes no more.
 #![tactic(auto)]
 
 ghost use Rattle.std.specs.Prelude.{◌≡◌, from_bits};
 ghost use Rattle.std.specs.Float.{binary64};
 ghost use Rattle.show.specs.Spelling.{stands};
+
+use std::io;
+use std::io::Write;
 
 // How a double is told: a whole number below 2^53 by its digits, with a minus or without; any
 // other by its bits.
@@ -52,58 +56,58 @@ fn spell_whole(b: u64, n: u64) -> Spelling
     Spelling::Bits(b)
 }
 
-pub fn text(s: &[u8]) {
-    io::write_all(1, s);
+pub fn text<W: Write>(out: &mut W, s: &[u8]) -> io::Result<()> {
+    out.write_all(s)
 }
 
-pub fn newline() {
-    text(b"\n");
+pub fn newline<W: Write>(out: &mut W) -> io::Result<()> {
+    text(out, b"\n")
 }
 
 // The text, then spaces up to column 40.
-pub fn label(s: &[u8]) {
-    text(s);
+pub fn label<W: Write>(out: &mut W, s: &[u8]) -> io::Result<()> {
+    text(out, s)?;
     let spaces = [b' '; 40];
     let n = s.len();
     if n < 40 {
-        text(&spaces[n..]);
+        text(out, &spaces[n..])?;
     }
+    Ok(())
 }
 
-pub fn decimal(n: u64) {
-    io::print_decimal(1, n);
+pub fn decimal<W: Write>(out: &mut W, n: u64) -> io::Result<()> {
+    write!(out, "{n}")
 }
 
 // 0x and 16 digits.
-pub fn hex(b: u64) {
-    text(b"0x");
-    io::print_hex(1, b, 16);
+pub fn hex<W: Write>(out: &mut W, b: u64) -> io::Result<()> {
+    write!(out, "0x{b:016x}")
 }
 
 // A double as `spell` tells it.
-pub fn number(x: f64) {
+pub fn number<W: Write>(out: &mut W, x: f64) -> io::Result<()> {
     match spell(x) {
-        Spelling::NotNumber => text(b"NaN"),
-        Spelling::Whole(n) => decimal(n),
+        Spelling::NotNumber => text(out, b"NaN"),
+        Spelling::Whole(n) => decimal(out, n),
         Spelling::Minus(n) => {
-            text(b"-");
-            decimal(n);
+            text(out, b"-")?;
+            decimal(out, n)
         }
-        Spelling::Bits(b) => hex(b),
+        Spelling::Bits(b) => hex(out, b),
     }
 }
 
 // A double by its bits, or the word NaN.
-pub fn bits(x: f64) {
+pub fn bits<W: Write>(out: &mut W, x: f64) -> io::Result<()> {
     if x != x {
-        text(b"NaN");
+        text(out, b"NaN")
     } else {
-        hex(f64::to_bits(x));
+        hex(out, f64::to_bits(x))
     }
 }
 
 // A refusal by its number.
-pub fn refused(no: u8) {
-    text(b"refused ");
-    decimal(no as u64);
+pub fn refused<W: Write>(out: &mut W, no: u8) -> io::Result<()> {
+    text(out, b"refused ")?;
+    decimal(out, no as u64)
 }
