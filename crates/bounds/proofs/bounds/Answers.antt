@@ -16,9 +16,9 @@ pub loop-i-preserved : goal.loop-i-preserved
 unfolding minimum positives div of_bits is_nan
 loop-i-preserved c =
     let so_far = c.loop-i.invariant in (
-    two_turns so_far.0 c.loop-i-test.true refl (rw (c.lower-least.ensures.value, c.least.ensures) (least_assoc _ _ _)),
-    two_turns so_far.1 c.loop-i-test.true refl (rw (c.greatest-in-loop-i.ensures, c.greatest.ensures)),
-    c.lower-least.ensures.result_value,
+      two_turns so_far.0 c.loop-i-test.true refl (rw (c.lower-least.ensures.value, c.least.ensures) (least_assoc _ _ _)),
+      two_turns so_far.1 c.loop-i-test.true refl (rw (c.greatest-in-loop-i.ensures, c.greatest.ensures)),
+      c.lower-least.ensures.result_value,
     )
 
 pub returns-then-i-x-clause-least_value : goal.returns-then-i-x-clause-least_value

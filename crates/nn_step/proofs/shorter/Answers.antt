@@ -11,6 +11,6 @@ returns-then-x-alpha c = search (stays, passes)
 pub returns : goal.returns
 returns c =
     elim c.if-y.branch [
-      then-y w ↦ rw (c.least.ensures, w.if-y.true, w.ratio-is)
-    | else-y w ↦ rw (c.least.ensures, w.if-y.false, w.ratio-is, least_self)
+      | then-y w ↦ rw (c.least.ensures, w.if-y.true, w.ratio-is)
+      | else-y w ↦ rw (c.least.ensures, w.if-y.false, w.ratio-is, least_self)
     ]

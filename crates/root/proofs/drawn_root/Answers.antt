@@ -43,8 +43,8 @@ loop-i-smaller c = omega (arith, c.loop-i-test.true)
 pub loop-i-preserved : goal.loop-i-preserved
 loop-i-preserved c =
     elim c.if-s-r.branch [
-      then-s-r w ↦ rw (w.s-is, w.r-is) (draw_one c.loop-i.invariant (omega (arith, c.loop-i-test.true)) w.if-s-r.true)
-    | else-s-r w ↦ rw (w.s-is, w.r-is) (draw_zero c.loop-i.invariant (omega (arith, c.loop-i-test.true)) w.if-s-r.false)
+      | then-s-r w ↦ rw (w.s-is, w.r-is) (draw_one c.loop-i.invariant (omega (arith, c.loop-i-test.true)) w.if-s-r.true)
+      | else-s-r w ↦ rw (w.s-is, w.r-is) (draw_zero c.loop-i.invariant (omega (arith, c.loop-i-test.true)) w.if-s-r.false)
     ]
 
 pub overflow_add-result : goal.overflow_add-result

@@ -22,9 +22,10 @@ loop-i-preserved c =
     let turn = scaling_turn a.s.now a.z.now in
     let Fits : Underway → Type 0 = λ t. Fitting t.0 a.s.now a.z.now t.1 t.2 t.3 t.4 t.5 t.6 t.7 in
     let e = c.scaling_further-walk.ensures in
-    let l = c.loop-i in
-    (ap (λ t. rest turn a.list.now (l.i + 1) t) e ∙ sym (turned turn a.list.now l.i _ c.loop-i-test.true) ∙ l.invariant.0,
-    subst Fits (sym e) (fits_turn a.s.now a.z.now _ _ _ _ _ _ _ _ _ l.invariant.1))
+    let l = c.loop-i in (
+      ap (λ t. rest turn a.list.now (l.i + 1) t) e ∙ sym (turned turn a.list.now l.i _ c.loop-i-test.true) ∙ l.invariant.0,
+      subst Fits (sym e) (fits_turn a.s.now a.z.now _ _ _ _ _ _ _ _ _ l.invariant.1),
+    )
 
 pub returns : goal.returns
 returns c =
