@@ -1,9 +1,0 @@
--- `akmuzrel::list::akm_list_square_hs` meets its contract. Written by tools/surface. Assumes nothing.
-use borrow.Author.Rules.{rules}
-use Rattle.akmuzrel.proofs.list.akm_list_square_hs.Statement.{statement}
-use Rattle.akmuzrel.proofs.list.akm_list_square_hs.Tie as tie
-
-pub akm_list_square_hs_spec : {M : Type 1} → statement M
-akm_list_square_hs_spec =
-    tie.close (tie.spec
-    (λ c κs. search rules) (λ c κs. search rules) (λ c. rw (← c.before.place_of.ensures) c.square-hs-at.ensures))

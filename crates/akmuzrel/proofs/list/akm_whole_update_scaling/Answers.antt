@@ -1,0 +1,6 @@
+-- `akmuzrel::list::akm_whole_update_scaling` meets its contract. Written by tools/surface. Assumes nothing.
+use Rattle.codes.proofs.Laws.{exported}
+use Rattle.akmuzrel.proofs.list.akm_whole_update_scaling.Goals as goal
+
+pub returns : goal.returns
+returns c = search exported

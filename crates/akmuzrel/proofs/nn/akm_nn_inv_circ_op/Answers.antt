@@ -1,0 +1,6 @@
+-- `akmuzrel::nn::akm_nn_inv_circ_op` meets its contract. Written by tools/surface. Assumes nothing.
+use Rattle.codes.proofs.Laws.{exported}
+use Rattle.akmuzrel.proofs.nn.akm_nn_inv_circ_op.Goals as goal
+
+pub returns : goal.returns
+returns c = search exported

@@ -1,0 +1,6 @@
+-- `akmuzrel::soc::akm_soc_standing` meets its contract. Written by tools/surface. Assumes nothing.
+use Rattle.codes.proofs.Laws.{exported}
+use Rattle.akmuzrel.proofs.soc.akm_soc_standing.Goals as goal
+
+pub returns : goal.returns
+returns c = search exported
