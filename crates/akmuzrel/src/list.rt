@@ -46,7 +46,8 @@ pub extern "C" fn akm_list_scaled_unit_shift(
     z: &mut [f64],
     alpha: f64,
 ) -> u8
-    ensures { export result [] (z.new ⨾ tt) ≡ export_of values_of [] (comes_at (place_of (cones list.now) k) (scaled_unit_shift_deed alpha) z.old) }
+    ensures { export result [] (z.new ⨾ tt)
+        ≡ export_of values_of [] (comes_at (place_of (cones list.now) k) (scaled_unit_shift_deed alpha) z.old) }
 {
     let p = records::place_of(list, k);
     codes::answer(list_shifts::scaled_unit_shift_at(p, z, alpha))
@@ -100,7 +101,8 @@ pub extern "C" fn akm_list_update_scaling(
     truth: &mut u8,
 ) -> u8
     ensures { export result (whole truth.new ∷ []) (w.new ⨾ lambda.new ⨾ u.new ⨾ v.new ⨾ eta.new ⨾ d.new ⨾ marks.new ⨾ tt)
-        ≡ export_of values_of (whole truth.old ∷ []) (comes_at (place_of (cones list.now) k) update_scaling_deed w.old lambda.old u.old v.old eta.old d.old marks.old s.now z.now) }
+        ≡ export_of values_of (whole truth.old ∷ []) (comes_at (place_of (cones list.now) k) update_scaling_deed w.old lambda.old u.old v.old eta.old d.old
+        marks.old s.now z.now) }
 {
     let p = records::place_of(list, k);
     codes::scaling(
@@ -134,7 +136,8 @@ pub extern "C" fn akm_list_square_hs(
     eta: &[f64],
     marks: &[u8],
 ) -> Square
-    ensures { of_square result ≡ as_squared (comes_at (place_of (cones list.now) k) square_hs_deed w.now eta.now marks.now).ruling }
+    ensures { of_square result
+        ≡ as_squared (comes_at (place_of (cones list.now) k) square_hs_deed w.now eta.now marks.now).ruling }
 {
     let p = records::place_of(list, k);
     list_square::square_hs_at(p, w, eta, marks)
@@ -185,7 +188,8 @@ pub extern "C" fn akm_list_combined_ds_shift(
     marks: &[u8],
 ) -> u8
     ensures { export result [] (shift.new ⨾ step_z.new ⨾ step_s.new ⨾ tt)
-        ≡ export_of values_of [] (comes_at (place_of (cones list.now) k) (combined_ds_shift_deed sigma_mu) shift.old step_z.old step_s.old w.now eta.now marks.now) }
+        ≡ export_of values_of [] (comes_at (place_of (cones list.now) k) (combined_ds_shift_deed sigma_mu) shift.old step_z.old step_s.old w.now eta.now
+        marks.now) }
 {
     let p = records::place_of(list, k);
     codes::answer(list_shifts::combined_ds_shift_at(
@@ -225,8 +229,8 @@ pub extern "C" fn akm_list_step_length(
     step_s: &mut f64,
 ) -> u8
     ensures { export result (real step_z.new ∷ real step_s.new ∷ []) tt
-        ≡ export_of values_of (real step_z.old ∷ real step_s.old ∷ []) (comes_at (place_of (cones list.now) k) (step_length_deed
-        limit) dz.now ds.now z.now s.now) }
+        ≡ export_of values_of (real step_z.old ∷ real step_s.old ∷ []) (comes_at (place_of (cones list.now) k) (step_length_deed limit) dz.now ds.now z.now
+        s.now) }
 {
     let p = records::place_of(list, k);
     codes::steps(
@@ -349,8 +353,9 @@ pub extern "C" fn akm_whole_update_scaling(
     truth: &mut u8,
     cone: &mut usize,
 ) -> u8
-    ensures { export result (whole truth.new ∷ whole cone.new ∷ []) (w.new ⨾ lambda.new ⨾ u.new ⨾ v.new ⨾ eta.exit.now ⨾ d.new ⨾ marks.new ⨾ tt)
-        ≡ export_of (scaled_values cone.old) (whole truth.old ∷ whole cone.old ∷ []) (list_update_scaling (cones list.now) s.now z.now w.old lambda.old u.old v.old eta.old d.old marks.old) }
+    ensures { export result (whole truth.new ∷ whole cone.new ∷ []) (w.new ⨾ lambda.new ⨾ u.new ⨾ v.new ⨾ eta.new ⨾ d.new ⨾ marks.new ⨾ tt)
+        ≡ export_of (scaled_values cone.old) (whole truth.old ∷ whole cone.old ∷ []) (list_update_scaling (cones list.now) s.now z.now w.old lambda.old u.old
+        v.old eta.old d.old marks.old) }
 {
     codes::scalings(
         records_scaling::list_update_scaling(list, s, z, w, lambda, u, v, eta, d, marks),
@@ -371,8 +376,7 @@ pub extern "C" fn akm_whole_step_length(
     step_s: &mut f64,
 ) -> u8
     ensures { export result (real step_z.new ∷ real step_s.new ∷ []) tt
-        ≡ export_of values_of (real step_z.old ∷ real step_s.old ∷ []) (list_step_length (cones list.now) dz.now
-        ds.now z.now s.now limit) }
+        ≡ export_of values_of (real step_z.old ∷ real step_s.old ∷ []) (list_step_length (cones list.now) dz.now ds.now z.now s.now limit) }
 {
     codes::steps(
         records_step::list_step_length(list, dz, ds, z, s, limit),

@@ -37,7 +37,8 @@ pub fn scaled_unit_shift(list: &[Cone], k: usize, z: &mut [f64], alpha: f64) -> 
 }
 
 pub fn unit_initialization(list: &[Cone], k: usize, z: &mut [f64], s: &mut [f64]) -> Answer
-    ensures { tells (of_answer result) (z.new ⨾ s.new ⨾ tt) ≡ comes_at (place_of list.now k) unit_initialization_deed z.old s.old }
+    ensures { tells (of_answer result) (z.new ⨾ s.new ⨾ tt)
+        ≡ comes_at (place_of list.now k) unit_initialization_deed z.old s.old }
 {
     let p = conewalk::place_of(list, k);
     list_units::unit_initialization_at(p, z, s)
@@ -54,8 +55,7 @@ pub fn set_identity_scaling(
     marks: &mut [u8],
 ) -> Answer
     ensures { tells (of_answer result) (w.new ⨾ u.new ⨾ v.new ⨾ eta.new ⨾ d.new ⨾ marks.new ⨾ tt)
-        ≡ comes_at (place_of list.now k) set_identity_scaling_deed w.old u.old v.old eta.old d.old
-        marks.old }
+        ≡ comes_at (place_of list.now k) set_identity_scaling_deed w.old u.old v.old eta.old d.old marks.old }
 {
     let p = conewalk::place_of(list, k);
     list_identity::set_identity_scaling_at(p, w, u, v, eta, d, marks)
@@ -75,8 +75,7 @@ pub fn update_scaling(
     marks: &mut [u8],
 ) -> Scaling
     ensures { tells (of_scaling result) (w.new ⨾ lambda.new ⨾ u.new ⨾ v.new ⨾ eta.new ⨾ d.new ⨾ marks.new ⨾ tt)
-        ≡ comes_at (place_of list.now k) update_scaling_deed w.old lambda.old u.old v.old eta.old
-        d.old marks.old s.now z.now }
+        ≡ comes_at (place_of list.now k) update_scaling_deed w.old lambda.old u.old v.old eta.old d.old marks.old s.now z.now }
 {
     let p = conewalk::place_of(list, k);
     list_scaling::update_scaling_at(p, s, z, w, lambda, u, v, eta, d, marks)
@@ -159,8 +158,7 @@ pub fn ds_from_dz_offset(
     marks: &[u8],
 ) -> Answer
     ensures { tells (of_answer result) (out.new ⨾ tt)
-        ≡ comes_at (place_of list.now k) ds_from_dz_offset_deed out.old ds.now z.now w.now lambda.now
-        eta.now marks.now }
+        ≡ comes_at (place_of list.now k) ds_from_dz_offset_deed out.old ds.now z.now w.now lambda.now eta.now marks.now }
 {
     let p = conewalk::place_of(list, k);
     list_shifts::ds_from_dz_offset_at(p, out, ds, z, w, lambda, eta, marks)
@@ -175,7 +173,8 @@ pub fn step_length(
     s: &[f64],
     limit: f64,
 ) -> Steps
-    ensures { tells (of_steps result) tt ≡ comes_at (place_of list.now k) (step_length_deed limit) dz.now ds.now z.now s.now }
+    ensures { tells (of_steps result) tt
+        ≡ comes_at (place_of list.now k) (step_length_deed limit) dz.now ds.now z.now s.now }
 {
     let p = conewalk::place_of(list, k);
     list_step::step_length_at(p, dz, ds, z, s, limit)

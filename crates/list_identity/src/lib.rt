@@ -24,8 +24,7 @@ fn kind_set_identity_scaling(
     d: &mut f64,
 )
     requires { Fit (least_dim kind) (length w.old) (length u.old ∷ length v.old ∷ []) }
-    ensures { w.new ⨾ u.new ⨾ v.new ⨾ eta.new ⨾ d.new ⨾ tt
-        ≡ kind_set_identity_scaling kind w.old u.old v.old eta.old d.old }
+    ensures { w.new ⨾ u.new ⨾ v.new ⨾ eta.new ⨾ d.new ⨾ tt ≡ kind_set_identity_scaling kind w.old u.old v.old eta.old d.old }
 {
     match kind {
         Kind::Nonnegative(n) => nn_identity::set_identity_scaling(w),
@@ -41,10 +40,7 @@ fn set_identity_scaling_in(
     eta: &mut [f64],
     d: &mut [f64],
 )
-    requires { Open p ((length w.old, p.entries) ∷ (length u.old, p.entries) ∷ (length v.old, p.entries) ∷ (length eta.old, p.count) ∷ (
-      length d.old,
-      p.count,
-    ) ∷ []) }
+    requires { Open p ((length w.old, p.entries) ∷ (length u.old, p.entries) ∷ (length v.old, p.entries) ∷ (length eta.old, p.count) ∷ (length d.old, p.count) ∷ []) }
     ensures { w.new ⨾ u.new ⨾ v.new ⨾ eta.new ⨾ d.new ⨾ tt
         ≡ (works_at p set_identity_scaling_unmarked w.old u.old v.old eta.old d.old).news }
 {

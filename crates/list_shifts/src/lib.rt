@@ -162,13 +162,9 @@ fn ds_from_dz_offset_in(
     lambda: &[f64],
     eta: &[f64],
 )
-    requires { Open p ((length out.old, p.entries) ∷ (length ds.now, p.entries) ∷ (length z.now, p.entries) ∷ (length w.now, p.entries) ∷ (
-      length lambda.now,
-      p.entries,
-    ) ∷ (length eta.now, p.count) ∷ []) }
-    ensures { out.new ⨾ tt
-        ≡ (works_at p ds_from_dz_offset_unmarked out.old ds.now z.now w.now lambda.now eta.now
-        ).news }
+    requires { Open p ((length out.old, p.entries) ∷ (length ds.now, p.entries) ∷ (length z.now, p.entries) ∷ (length w.now, p.entries) ∷
+        (length lambda.now, p.entries) ∷ (length eta.now, p.count) ∷ []) }
+    ensures { out.new ⨾ tt ≡ (works_at p ds_from_dz_offset_unmarked out.old ds.now z.now w.now lambda.now eta.now).news }
 {
     let at = p.start;
     let kind = p.kind;

@@ -36,7 +36,8 @@ pub fn scaled_unit_shift(
     z: &mut [f64],
     alpha: f64,
 ) -> Answer
-    ensures { tells (of_answer result) (z.new ⨾ tt) ≡ comes_at (place_of (take cones list) k) (scaled_unit_shift_deed alpha) z.old }
+    ensures { tells (of_answer result) (z.new ⨾ tt)
+        ≡ comes_at (place_of (take cones list) k) (scaled_unit_shift_deed alpha) z.old }
 {
     let few = local_rows::held(cones);
     list_calls::scaled_unit_shift(&list[..few], k, z, alpha)
@@ -49,7 +50,8 @@ pub fn unit_initialization(
     z: &mut [f64],
     s: &mut [f64],
 ) -> Answer
-    ensures { tells (of_answer result) (z.new ⨾ s.new ⨾ tt) ≡ comes_at (place_of (take cones list) k) unit_initialization_deed z.old s.old }
+    ensures { tells (of_answer result) (z.new ⨾ s.new ⨾ tt)
+        ≡ comes_at (place_of (take cones list) k) unit_initialization_deed z.old s.old }
 {
     let few = local_rows::held(cones);
     list_calls::unit_initialization(&list[..few], k, z, s)
@@ -119,7 +121,8 @@ pub fn square_hs(
     eta: &[f64],
     marks: &[u8],
 ) -> Square
-    ensures { of_square result ≡ as_squared (comes_at (place_of (take cones list) k) square_hs_deed w.now eta.now marks.now).ruling }
+    ensures { of_square result
+        ≡ as_squared (comes_at (place_of (take cones list) k) square_hs_deed w.now eta.now marks.now).ruling }
 {
     let few = local_rows::held(cones);
     list_calls::square_hs(&list[..few], k, w, eta, marks)
@@ -150,7 +153,8 @@ pub fn affine_ds(
     lambda: &[f64],
     marks: &[u8],
 ) -> Answer
-    ensures { tells (of_answer result) (ds.new ⨾ tt) ≡ comes_at (place_of (take cones list) k) affine_ds_deed ds.old lambda.now marks.now }
+    ensures { tells (of_answer result) (ds.new ⨾ tt)
+        ≡ comes_at (place_of (take cones list) k) affine_ds_deed ds.old lambda.now marks.now }
 {
     let few = local_rows::held(cones);
     list_calls::affine_ds(&list[..few], k, ds, lambda, marks)
@@ -198,8 +202,7 @@ pub fn ds_from_dz_offset(
     marks: &[u8],
 ) -> Answer
     ensures { tells (of_answer result) (out.new ⨾ tt)
-        ≡ comes_at (place_of (take cones list) k) ds_from_dz_offset_deed out.old ds.now z.now w.now lambda.now
-        eta.now marks.now }
+        ≡ comes_at (place_of (take cones list) k) ds_from_dz_offset_deed out.old ds.now z.now w.now lambda.now eta.now marks.now }
 {
     let few = local_rows::held(cones);
     list_calls::ds_from_dz_offset(&list[..few], k, out, ds, z, w, lambda, eta, marks)
@@ -215,7 +218,8 @@ pub fn step_length(
     s: &[f64],
     limit: f64,
 ) -> Steps
-    ensures { tells (of_steps result) tt ≡ comes_at (place_of (take cones list) k) (step_length_deed limit) dz.now ds.now z.now s.now }
+    ensures { tells (of_steps result) tt
+        ≡ comes_at (place_of (take cones list) k) (step_length_deed limit) dz.now ds.now z.now s.now }
 {
     let few = local_rows::held(cones);
     list_calls::step_length(&list[..few], k, dz, ds, z, s, limit)
@@ -267,7 +271,8 @@ pub fn circ_op(
     y: &[f64],
     z: &[f64],
 ) -> Answer
-    ensures { tells (of_answer result) (x.new ⨾ tt) ≡ comes_at (place_of (take cones list) k) circ_op_deed x.old y.now z.now }
+    ensures { tells (of_answer result) (x.new ⨾ tt)
+        ≡ comes_at (place_of (take cones list) k) circ_op_deed x.old y.now z.now }
 {
     let few = local_rows::held(cones);
     list_calls::circ_op(&list[..few], k, x, y, z)
@@ -281,7 +286,8 @@ pub fn inv_circ_op(
     y: &[f64],
     z: &[f64],
 ) -> Answer
-    ensures { tells (of_answer result) (x.new ⨾ tt) ≡ comes_at (place_of (take cones list) k) inv_circ_op_deed x.old y.now z.now }
+    ensures { tells (of_answer result) (x.new ⨾ tt)
+        ≡ comes_at (place_of (take cones list) k) inv_circ_op_deed x.old y.now z.now }
 {
     let few = local_rows::held(cones);
     list_calls::inv_circ_op(&list[..few], k, x, y, z)
