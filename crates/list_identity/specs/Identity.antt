@@ -21,6 +21,6 @@ set_identity_scaling_unmarked =
     plain (per_entry real ∷ per_entry real ∷ per_entry real ∷ per_cone real ∷ per_cone real ∷ []) []
     (λ kind w u v η d. writes_of (kind_set_identity_scaling kind w u v η d))
 
--- and the mark, which is then identity_scaling (document 02, item 4)
+-- and the mark, which is then Identity (document 02, item 4)
 abbrev pub set_identity_scaling_deed : Deed
 set_identity_scaling_deed = marking set_identity_scaling_unmarked (λ reply m. identity_mark)

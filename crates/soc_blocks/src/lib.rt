@@ -1,4 +1,4 @@
-// The second-order cone's block hs_of (source document 000, lines 217 to 246), packed: the bare call, and behind it the kernel that it calls
+// The second-order cone's block Hs (source document 000, lines 217 to 246), packed: the bare call, and behind it the kernel that it calls
 // once nothing is refused.
 #![tactic(auto)]
 

@@ -1,5 +1,5 @@
 -- Document 01, "Second-order rules": inverse products; source document 000, lines 325 to 327, 351 to 353 and 369 to 382, in order. z₁ is
--- Tail z. Assumes nothing.
+-- tail z. Assumes nothing.
 use Rattle.std.specs.Prelude.{List, [], ◌∷◌, length, Float}
 use Rattle.vecmath.specs.Double.{◌⊖◌, ◌⊗◌, ◌⊘◌, 𝟏, ◌!◌}
 use Rattle.vecmath.specs.Vector.{dot, axpby}
