@@ -35,7 +35,7 @@ pub extern "C" fn akm_list_margins(
     ensures { export result (real alpha.new ∷ real beta.new ∷ []) tt
         ≡ export_of values_of (real alpha.old ∷ real beta.old ∷ []) (comes_at (place_of (cones list.now) k) margins_deed z.now) }
 {
-    let p = records::place_of(list, k);
+    let p = conewalk::place_of(list, k);
     codes::margins(list_margins::margins_at(p, z), alpha, beta)
 }
 
@@ -49,7 +49,7 @@ pub extern "C" fn akm_list_scaled_unit_shift(
     ensures { export result [] (z.new ⨾ tt)
         ≡ export_of values_of [] (comes_at (place_of (cones list.now) k) (scaled_unit_shift_deed alpha) z.old) }
 {
-    let p = records::place_of(list, k);
+    let p = conewalk::place_of(list, k);
     codes::answer(list_shifts::scaled_unit_shift_at(p, z, alpha))
 }
 
@@ -63,7 +63,7 @@ pub extern "C" fn akm_list_unit_initialization(
     ensures { export result [] (z.new ⨾ s.new ⨾ tt)
         ≡ export_of values_of [] (comes_at (place_of (cones list.now) k) unit_initialization_deed z.old s.old) }
 {
-    let p = records::place_of(list, k);
+    let p = conewalk::place_of(list, k);
     codes::answer(list_units::unit_initialization_at(p, z, s))
 }
 
@@ -81,7 +81,7 @@ pub extern "C" fn akm_list_set_identity_scaling(
     ensures { export result [] (w.new ⨾ u.new ⨾ v.new ⨾ eta.new ⨾ d.new ⨾ marks.new ⨾ tt)
         ≡ export_of values_of [] (comes_at (place_of (cones list.now) k) set_identity_scaling_deed w.old u.old v.old eta.old d.old marks.old) }
 {
-    let p = records::place_of(list, k);
+    let p = conewalk::place_of(list, k);
     codes::answer(list_identity::set_identity_scaling_at(p, w, u, v, eta, d, marks))
 }
 
@@ -104,7 +104,7 @@ pub extern "C" fn akm_list_update_scaling(
         ≡ export_of values_of (whole truth.old ∷ []) (comes_at (place_of (cones list.now) k) update_scaling_deed w.old lambda.old u.old v.old eta.old d.old
         marks.old s.now z.now) }
 {
-    let p = records::place_of(list, k);
+    let p = conewalk::place_of(list, k);
     codes::scaling(
         list_scaling::update_scaling_at(p, s, z, w, lambda, u, v, eta, d, marks),
         truth,
@@ -124,7 +124,7 @@ pub extern "C" fn akm_list_get_hs(
     ensures { export result [] (hs.new ⨾ tt)
         ≡ export_of values_of [] (comes_at (place_of (cones list.now) k) get_hs_deed hs.old w.now eta.now d.now marks.now) }
 {
-    let p = records::place_of(list, k);
+    let p = conewalk::place_of(list, k);
     codes::answer(list_blocks::get_hs_at(p, hs, w, eta, d, marks))
 }
 
@@ -139,7 +139,7 @@ pub extern "C" fn akm_list_square_hs(
     ensures { of_square result
         ≡ as_squared (comes_at (place_of (cones list.now) k) square_hs_deed w.now eta.now marks.now).ruling }
 {
-    let p = records::place_of(list, k);
+    let p = conewalk::place_of(list, k);
     list_square::square_hs_at(p, w, eta, marks)
 }
 
@@ -156,7 +156,7 @@ pub extern "C" fn akm_list_mul_hs(
     ensures { export result [] (y.new ⨾ tt)
         ≡ export_of values_of [] (comes_at (place_of (cones list.now) k) mul_hs_deed y.old x.now w.now eta.now marks.now) }
 {
-    let p = records::place_of(list, k);
+    let p = conewalk::place_of(list, k);
     codes::answer(list_mul_hs::mul_hs_at(p, y, x, w, eta, marks))
 }
 
@@ -171,7 +171,7 @@ pub extern "C" fn akm_list_affine_ds(
     ensures { export result [] (ds.new ⨾ tt)
         ≡ export_of values_of [] (comes_at (place_of (cones list.now) k) affine_ds_deed ds.old lambda.now marks.now) }
 {
-    let p = records::place_of(list, k);
+    let p = conewalk::place_of(list, k);
     codes::answer(list_jordan::affine_ds_at(p, ds, lambda, marks))
 }
 
@@ -191,7 +191,7 @@ pub extern "C" fn akm_list_combined_ds_shift(
         ≡ export_of values_of [] (comes_at (place_of (cones list.now) k) (combined_ds_shift_deed sigma_mu) shift.old step_z.old step_s.old w.now eta.now
         marks.now) }
 {
-    let p = records::place_of(list, k);
+    let p = conewalk::place_of(list, k);
     codes::answer(list_shifts::combined_ds_shift_at(
         p, shift, step_z, step_s, sigma_mu, w, eta, marks,
     ))
@@ -212,7 +212,7 @@ pub extern "C" fn akm_list_ds_from_dz_offset(
     ensures { export result [] (out.new ⨾ tt)
         ≡ export_of values_of [] (comes_at (place_of (cones list.now) k) ds_from_dz_offset_deed out.old ds.now z.now w.now lambda.now eta.now marks.now) }
 {
-    let p = records::place_of(list, k);
+    let p = conewalk::place_of(list, k);
     codes::answer(list_shifts::ds_from_dz_offset_at(p, out, ds, z, w, lambda, eta, marks))
 }
 
@@ -232,7 +232,7 @@ pub extern "C" fn akm_list_step_length(
         ≡ export_of values_of (real step_z.old ∷ real step_s.old ∷ []) (comes_at (place_of (cones list.now) k) (step_length_deed limit) dz.now ds.now z.now
         s.now) }
 {
-    let p = records::place_of(list, k);
+    let p = conewalk::place_of(list, k);
     codes::steps(
         list_step::step_length_at(p, dz, ds, z, s, limit),
         step_z,
@@ -255,7 +255,7 @@ pub extern "C" fn akm_list_mul_w(
     ensures { export result [] (y.new ⨾ tt)
         ≡ export_of values_of [] (comes_at (place_of (cones list.now) k) (mul_w_deed alpha beta) y.old x.now w.now eta.now marks.now) }
 {
-    let p = records::place_of(list, k);
+    let p = conewalk::place_of(list, k);
     codes::answer(list_products::mul_w_at(p, y, x, alpha, beta, w, eta, marks))
 }
 
@@ -274,7 +274,7 @@ pub extern "C" fn akm_list_mul_winv(
     ensures { export result [] (y.new ⨾ tt)
         ≡ export_of values_of [] (comes_at (place_of (cones list.now) k) (mul_winv_deed alpha beta) y.old x.now w.now eta.now marks.now) }
 {
-    let p = records::place_of(list, k);
+    let p = conewalk::place_of(list, k);
     codes::answer(list_products::mul_winv_at(p, y, x, alpha, beta, w, eta, marks))
 }
 
@@ -289,7 +289,7 @@ pub extern "C" fn akm_list_circ_op(
     ensures { export result [] (x.new ⨾ tt)
         ≡ export_of values_of [] (comes_at (place_of (cones list.now) k) circ_op_deed x.old y.now z.now) }
 {
-    let p = records::place_of(list, k);
+    let p = conewalk::place_of(list, k);
     codes::answer(list_jordan::circ_op_at(p, x, y, z))
 }
 
@@ -304,7 +304,7 @@ pub extern "C" fn akm_list_inv_circ_op(
     ensures { export result [] (x.new ⨾ tt)
         ≡ export_of values_of [] (comes_at (place_of (cones list.now) k) inv_circ_op_deed x.old y.now z.now) }
 {
-    let p = records::place_of(list, k);
+    let p = conewalk::place_of(list, k);
     codes::answer(list_jordan::inv_circ_op_at(p, x, y, z))
 }
 
@@ -320,7 +320,7 @@ pub extern "C" fn akm_list_lambda_inv_circ_op(
     ensures { export result [] (x.new ⨾ tt)
         ≡ export_of values_of [] (comes_at (place_of (cones list.now) k) lambda_inv_circ_op_deed x.old z.now lambda.now marks.now) }
 {
-    let p = records::place_of(list, k);
+    let p = conewalk::place_of(list, k);
     codes::answer(list_jordan::lambda_inv_circ_op_at(p, x, z, lambda, marks))
 }
 
@@ -334,7 +334,7 @@ pub extern "C" fn akm_list_standing(
     ensures { export result (whole standing.new ∷ []) tt
         ≡ export_of values_of (whole standing.old ∷ []) (comes_at (place_of (cones list.now) k) standing_deed z.now) }
 {
-    let p = records::place_of(list, k);
+    let p = conewalk::place_of(list, k);
     codes::stands(list_standing::standing_at(p, z), standing)
 }
 
@@ -358,7 +358,7 @@ pub extern "C" fn akm_whole_update_scaling(
         v.old eta.old d.old marks.old) }
 {
     codes::scalings(
-        records_scaling::list_update_scaling(list, s, z, w, lambda, u, v, eta, d, marks),
+        whole_scaling::list_update_scaling(list, s, z, w, lambda, u, v, eta, d, marks),
         truth,
         cone,
     )
@@ -379,7 +379,7 @@ pub extern "C" fn akm_whole_step_length(
         ≡ export_of values_of (real step_z.old ∷ real step_s.old ∷ []) (list_step_length (cones list.now) dz.now ds.now z.now s.now limit) }
 {
     codes::steps(
-        records_step::list_step_length(list, dz, ds, z, s, limit),
+        whole_step::list_step_length(list, dz, ds, z, s, limit),
         step_z,
         step_s,
     )

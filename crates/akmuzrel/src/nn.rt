@@ -121,7 +121,7 @@ pub extern "C" fn akm_nn_step_length(
 pub extern "C" fn akm_nn_step(x: &[f64], y: &[f64], limit: f64, step: &mut f64) -> u8
     ensures { export result (real step.new ∷ []) tt ≡ export_of values_of (real step.old ∷ []) (nn_step x.now y.now limit) }
 {
-    codes::step(nn_step::nn_step(x, y, limit), step)
+    codes::number(nn_step::nn_step(x, y, limit), step)
 }
 
 #[unsafe(no_mangle)]

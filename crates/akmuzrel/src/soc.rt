@@ -159,7 +159,7 @@ pub extern "C" fn akm_soc_step_length(
 pub extern "C" fn akm_soc_step(x: &[f64], y: &[f64], limit: f64, step: &mut f64) -> u8
     ensures { export result (real step.new ∷ []) tt ≡ export_of values_of (real step.old ∷ []) (soc_step x.now y.now limit) }
 {
-    codes::step(soc_step::soc_step(x, y, limit), step)
+    codes::number(soc_step::soc_step(x, y, limit), step)
 }
 
 #[unsafe(no_mangle)]

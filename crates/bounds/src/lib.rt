@@ -30,19 +30,15 @@ pub fn bounds(x: &[f64]) -> LeastSum
 {
     let mut least = 1.0 / 0.0;
     let mut sum = 0.0;
-    let mut i = 0;
-    while i + 1 < x.len() {
-        let a = x[i];
-        let b = x[i + 1];
-        least = lower(least, extrema::least(a, b));
-        sum = sum + extrema::greatest(a, 0.0) + extrema::greatest(b, 0.0);
-        i += 2;
+    let (pairs, last) = x.as_chunks::<2>();
+    for [a, b] in pairs {
+        least = lower(least, extrema::least(*a, *b));
+        sum = sum + extrema::greatest(*a, 0.0) + extrema::greatest(*b, 0.0);
     }
-    if i < x.len() {
-        let a = x[i];
+    if let Some(a) = last.first() {
         return LeastSum {
-            least: lower(least, a),
-            sum: sum + extrema::greatest(a, 0.0),
+            least: lower(least, *a),
+            sum: sum + extrema::greatest(*a, 0.0),
         };
     }
     LeastSum { least, sum }

@@ -1,38 +1,37 @@
 -- What the words of a line say behind the row of records (docs/CASES.md): its slices. Assumes nothing.
-use Rattle.std.specs.Prelude.{ℕ, ◌+◌, ◌-◌, ◌%◌, cond, List, ◌++◌, ltb, leb, eqb, length, get_or, drop, Float}
-use Rattle.std.specs.Float.{binary64}
-use Rattle.std.specs.Float.Ieee.{of_bits}
+use Rattle.std.specs.Prelude.{ℕ, ◌+◌, ◌-◌, cond, List, ◌++◌, ltb, leb, eqb, length, get_or, drop, Result, Ok, Err}
 use Rattle.vecmath.specs.Vector.{each, fold_of}
+use Rattle.cases.specs.declared.Fault.{Fault}
+use Rattle.cases.specs.declared.Fault.TheVariants.{MissingWords, LongSlice, WordsLeftOver}
 use Rattle.case_words.specs.declared.Cut.{Cut}
 
-abbrev pub stop : ℕ → Cut
-stop fault = record { at = 0; length = 0; fault = fault }
+-- nothing is read yet
+abbrev pub uncut : Cut
+uncut = record { at = 0; length = 0 }
 
--- a slice, its length and its entries: 6, words are missing; 7, over 64 entries
-unfoldable pub slice : List ℕ → (at : ℕ) → Cut
+-- a slice, its length and its entries, of which there are at most 64
+unfoldable pub slice : List ℕ → (at : ℕ) → Result Cut Fault
 slice words at =
     let n = get_or words at 0 in
-    cond (leb (length words) at) (stop 6)
-    (cond (ltb 64 n) (stop 7)
-    (cond (ltb (length words - (at + 1)) n) (stop 6)
-    (record { at = at + 1 + n; length = n; fault = 0 })))
+    cond (leb (length words) at) (Err MissingWords)
+    (cond (ltb 64 n) (Err LongSlice)
+    (cond (ltb (length words - (at + 1)) n) (Err MissingWords)
+    (Ok (record { at = at + 1 + n; length = n }))))
 
 -- the slice behind what is read so far; what is wrong stays
-unfoldable pub behind : List ℕ → Cut → Cut
-behind words had = cond (eqb had.fault 0) (slice words had.at) had
+abbrev pub behind : List ℕ → Result Cut Fault → Result Cut Fault
+behind words (Ok had) = slice words had.at
+behind words (Err f) = Err f
 
 -- slice k, counted from 1 on
-unfoldable pub nth : List ℕ → (k : ℕ) → Cut
-nth words k = fold_of k (stop 0) (λ i had. behind words had)
+unfoldable pub nth : List ℕ → (k : ℕ) → Result Cut Fault
+nth words k = fold_of k (Ok uncut) (λ i had. behind words had)
 
--- what is wrong once all is read: 9, words are left over
-unfoldable pub left : List ℕ → Cut → ℕ
-left words had = cond (eqb had.fault 0) (cond (eqb had.at (length words)) 0 9) had.fault
+-- what is wrong once all is read: no word may be left over
+abbrev pub left : List ℕ → Result Cut Fault → Result (Unit {0}) Fault
+left words (Ok had) = cond (eqb had.at (length words)) (Ok tt) (Err WordsLeftOver)
+left words (Err f) = Err f
 
--- the doubles, each by its bits, and behind them what was there
-unfoldable pub numbers : List ℕ → List Float → List Float
-numbers words y = each (length words) (λ i. of_bits binary64 (get_or words i 0)) ++ drop (length words) y
-
--- the marks, each by its word's last byte, and behind them what was there
-unfoldable pub marks : List ℕ → List ℕ → List ℕ
-marks words y = each (length words) (λ i. get_or words i 0 % 256) ++ drop (length words) y
+-- the entries, each told by one word, and behind them what was there. Of doubles by its bits, of marks by its word's last byte
+unfoldable pub entries : {A : Type 0} → (ℕ → A) → List ℕ → List A → List A
+entries entry words y = each (length words) (λ i. entry (get_or words i 0)) ++ drop (length words) y

@@ -1,5 +1,7 @@
 -- A line of words in hex, read byte by byte (docs/CASES.md). Assumes nothing.
-use Rattle.std.specs.Prelude.{ℕ, ◌+◌, ◌-◌, ◌*◌, ◌≤◌, ◌≡◌, cond, List, ltb, leb, eqb, length, set, take}
+use Rattle.std.specs.Prelude.{ℕ, ◌+◌, ◌-◌, ◌*◌, ◌≤◌, ◌≡◌, cond, ◌||◌, List, ltb, leb, eqb, length, set, take, Result, Ok, Err}
+use Rattle.cases.specs.declared.Fault.{Fault}
+use Rattle.cases.specs.declared.Fault.TheVariants.{NoDigit, EmptyWord, LongWord, TooManyWords}
 use Rattle.cases.specs.declared.Line.{Line}
 
 -- n counts the first entries of xs. The second part follows from the first: both are stated, so that `&xs[..n]` asks for no proof
@@ -7,47 +9,49 @@ pub record Counts {A : Type 0} (n : ℕ) (xs : List A) : Type 0 where
   pub within : n ≤ length xs
   pub part : n ≡ length (take n xs)
 
--- the value of a digit, 0 to 9 and a to f; 16 for any other byte
-unfoldable pub digit : ℕ → ℕ
-digit b = cond (ltb b 48) 16 (cond (ltb b 58) (b - 48) (cond (ltb b 97) 16 (cond (ltb b 103) (b - 87) 16)))
+-- the value of a digit, 0 to 9 and a to f; any other byte is no digit
+unfoldable pub digit : ℕ → Result ℕ Fault
+digit b =
+    cond (ltb b 48) (Err NoDigit)
+    (cond (ltb b 58) (Ok (b - 48))
+    (cond (ltb b 97) (Err NoDigit)
+    (cond (ltb b 103) (Ok (b - 87)) (Err NoDigit))))
 
--- a line with that fault; with fault 0, one of which nothing is read
-abbrev pub bad : ℕ → Line
-bad fault = record { count = 0; digits = 0; word = 0; fault = fault }
+-- a line of which nothing is read
+abbrev pub blank : Line
+blank = record { count = 0; digits = 0; word = 0 }
 
--- with one digit more: 1, it is no digit; 3, the word has 16 digits, or no room for one more
-unfoldable pub grown : ℕ → Line → Line
-grown d l =
-    cond (ltb 15 d) (bad 1)
-    (cond (ltb 15 l.digits) (bad 3)
-    (cond (ltb 0xfff_ffff_ffff_ffff l.word) (bad 3)
-    (record { count = l.count; digits = l.digits + 1; word = l.word * 16 + d; fault = 0 })))
+-- with the digit d more, where the word does not have 16 already, and has room for one more; what is no digit is told first
+abbrev pub grown_by : Line → Result ℕ Fault → Result Line Fault
+grown_by l (Err f) = Err f
+grown_by l (Ok d) =
+    cond (ltb 15 l.digits || ltb 0xfff_ffff_ffff_ffff l.word) (Err LongWord)
+    (Ok (record { count = l.count; digits = l.digits + 1; word = l.word * 16 + d }))
 
--- a line, and the words that have been read
+unfoldable pub grown : ℕ → Line → Result Line Fault
+grown b l = grown_by l (digit b)
+
+-- a line or what is wrong with it, and the words that have been read
 pub record Reading : Type 0 where
-  pub line : Line
+  pub line : Result Line Fault
   pub words : List ℕ
 
-abbrev pub broken : ℕ → Reading → Reading
-broken fault r = record { line = bad fault; words = r.words }
-
--- at a word's end: 2, the word has no digit; 4, there is no place for it
-unfoldable pub ends : Reading → Reading
-ends r =
-    cond (eqb r.line.digits 0) (broken 2 r)
-    (cond (leb (length r.words) r.line.count) (broken 4 r)
+-- at a word's end, where the word has a digit and there is a place for it
+unfoldable pub ends : Line → List ℕ → Reading
+ends l words =
+    cond (eqb l.digits 0) (record { line = Err EmptyWord; words = words })
+    (cond (leb (length words) l.count) (record { line = Err TooManyWords; words = words })
     (record {
-      line = record { count = r.line.count + 1; digits = 0; word = 0; fault = 0 };
-      words = set r.words r.line.count r.line.word;
+      line = Ok (record { count = l.count + 1; digits = 0; word = 0 });
+      words = set words l.count l.word;
     }))
 
--- with one byte more: a space ends a word
-unfoldable pub takes : ℕ → Reading → Reading
-takes b r =
-    cond (eqb r.line.fault 0)
-    (cond (eqb b 32) (ends r) (record { line = grown (digit b) r.line; words = r.words }))
-    r
+-- with one byte more: a space ends a word. What is wrong stays
+unfoldable pub takes : ℕ → Result Line Fault → List ℕ → Reading
+takes b (Ok l) words = cond (eqb b 32) (ends l words) (record { line = grown b l; words = words })
+takes b (Err f) words = record { line = Err f; words = words }
 
 -- at the line's end, which ends a word too
-unfoldable pub closes : Reading → Reading
-closes r = cond (eqb r.line.fault 0) (ends r) (broken r.line.fault r)
+unfoldable pub closes : Result Line Fault → List ℕ → Reading
+closes (Ok l) words = ends l words
+closes (Err f) words = record { line = Err f; words = words }

@@ -1,120 +1,131 @@
 // A recorded case: a line of words in hex with one space between two (docs/CASES.md). Of our own; nothing is ported.
 //
-// A line is read byte by byte, so that its length has no bound. What is wrong with it is told by a number: 1 a byte that is no digit, 2 an
-// empty word, 3 a word of over 16 digits, 4 too many words.
-#![tactic(auto)]
+// A line is read byte by byte, so that its length has no bound.
+#![tactic(auto, using(std::proofs::lemmas::Bool::Decides::nat_tests), unfolding(crate::specs::Text::digit, crate::specs::Text::grown, crate::specs::Text::ends, crate::specs::Text::takes, crate::specs::Text::closes))]
 
-ghost use Rattle.std.specs.Prelude.{◌≡◌, ◌<◌, ◌+◌, ◌*◌};
-ghost use Rattle.cases.specs.Text.{Counts, digit, bad, grown, ends, takes, closes};
+ghost use Rattle.std.specs.Prelude.{◌≡◌, ◌<◌, ◌+◌, ◌*◌, IfOk, Ok};
+ghost use Rattle.cases.specs.Text.{Counts, digit, blank, grown, ends, takes, closes};
 
-// What is read of a line: how many words are whole, how many digits the next has so far and what they come to, and what is wrong, 0 for
-// nothing.
+use std::error::Error;
+use std::fmt;
+
+// What is wrong with a line: with its text, the first four and the last; with what its words say, the others.
+#[derive(Clone, Copy, Debug, PartialEq, Eq)]
+pub enum Fault {
+    NoDigit,
+    EmptyWord,
+    LongWord,
+    TooManyWords,
+    NoSuchCall,
+    MissingWords,
+    LongSlice,
+    LongRow,
+    WordsLeftOver,
+    NotOneEntry,
+    NoLineEnd,
+}
+
+impl fmt::Display for Fault {
+    fn fmt<W: fmt::Write>(&self, f: &mut fmt::Formatter<W>) -> fmt::Result {
+        f.write_str(match self {
+            Fault::NoDigit => "a byte that is no digit",
+            Fault::EmptyWord => "an empty word",
+            Fault::LongWord => "a word of over 16 digits",
+            Fault::TooManyWords => "over 1,400 words",
+            Fault::NoSuchCall => "no such call",
+            Fault::MissingWords => "words are missing",
+            Fault::LongSlice => "a slice of over 64 entries",
+            Fault::LongRow => "a row of over 260 records",
+            Fault::WordsLeftOver => "words are left over",
+            Fault::NotOneEntry => "a lent number that is not one entry",
+            Fault::NoLineEnd => "no line end",
+        })
+    }
+}
+
+impl Error for Fault {}
+
+// What is read of a line: how many words are whole, how many digits the next has so far and what they come to.
 #[derive(Drop)]
 pub struct Line {
     pub count: usize,
     pub digits: usize,
     pub word: u64,
-    pub fault: u8,
 }
 
-fn bad(fault: u8) -> Line
-    ensures { result ≡ bad fault }
+// A line of which nothing is read.
+pub fn start() -> Line
+    ensures { result ≡ blank }
 {
     Line {
         count: 0,
         digits: 0,
         word: 0,
-        fault,
     }
 }
 
-// A line of which nothing is read.
-pub fn start() -> Line
-    ensures { result ≡ bad 0 }
-{
-    bad(0)
-}
-
-// What a digit stands for; 16 for any other byte.
-#[tactic(auto, using(std::proofs::lemmas::Bool::Decides::nat_tests), unfolding(crate::specs::Text::digit))]
-fn digit(b: u8) -> u8
-    ensures { result ≡ digit b }
+// What a digit stands for. The library's `to_digit` takes capitals too.
+fn digit(b: u8) -> Result<u8, Fault>
+    ensures value { result ≡ digit b }
+    ensures small { IfOk result (λ d. d < 16) }
 {
     match b {
-        48..=57 => b - 48,
-        97..=102 => b - 87,
-        _ => 16,
+        b'0'..=b'9' => Ok(b - b'0'),
+        b'a'..=b'f' => Ok(b - b'a' + 10),
+        _ => Err(Fault::NoDigit),
     }
 }
 
-// The line with one digit more.
-#[tactic(auto, using(std::proofs::lemmas::Bool::Decides::nat_tests), unfolding(crate::specs::Text::grown))]
-fn grown(line: Line, d: u8) -> Line
-    ensures { result ≡ grown d line }
+// The line with one digit more. The test of the word is behind that of the digits; it is what the product asks for.
+fn grown(line: Line, b: u8) -> Result<Line, Fault>
+    ensures { result ≡ grown b line }
 {
-    let digits = line.digits;
-    let word = line.word;
-    if 15 < d {
-        return bad(1);
+    let d = digit(b)?;
+    if (15 < line.digits) | (0xfff_ffff_ffff_ffff < line.word) {
+        return Err(Fault::LongWord);
     }
-    if 15 < digits {
-        return bad(3);
-    }
-    if 0xfff_ffff_ffff_ffff < word {
-        return bad(3);
-    }
-    Line {
+    Ok(Line {
         count: line.count,
-        digits: digits + 1,
-        word: word * 16 + d as u64,
-        fault: 0,
-    }
+        digits: line.digits + 1,
+        word: line.word * 16 + d as u64,
+    })
 }
 
 // The line at the end of a word, which goes to its place.
-#[tactic(auto, using(std::proofs::lemmas::Bool::Decides::nat_tests), unfolding(crate::specs::Text::ends))]
-fn ended(line: Line, words: &mut [u64]) -> Line
-    ensures words_after { record { line = result; words = words.new } ≡ ends (record { line = line; words = words.old }) }
-    ensures counts { Counts result.count words.new }
+fn ended(line: Line, words: &mut [u64]) -> Result<Line, Fault>
+    ensures words_after { record { line = result; words = words.new } ≡ ends line words.old }
+    ensures counts { IfOk result (λ line. Counts line.count words.new) }
 {
     if line.digits == 0 {
-        return bad(2);
+        return Err(Fault::EmptyWord);
     }
     let at = line.count;
     if words.len() <= at {
-        return bad(4);
+        return Err(Fault::TooManyWords);
     }
     words[at] = line.word;
-    Line {
+    Ok(Line {
         count: at + 1,
         digits: 0,
         word: 0,
-        fault: 0,
-    }
+    })
 }
 
 // The line with one byte more, which is no line end. A line that is damaged stays so.
-#[tactic(auto, using(std::proofs::lemmas::Bool::Decides::nat_tests), unfolding(crate::specs::Text::takes))]
-pub fn take(line: Line, b: u8, words: &mut [u64]) -> Line
-    ensures { record { line = result; words = words.new } ≡ takes b (record { line = line; words = words.old }) }
+pub fn take(line: Result<Line, Fault>, b: u8, words: &mut [u64]) -> Result<Line, Fault>
+    ensures { record { line = result; words = words.new } ≡ takes b line words.old }
 {
-    if line.fault != 0 {
-        return line;
-    }
-    if b == 32 {
+    let line = line?;
+    if b == b' ' {
         return ended(line, words);
     }
-    grown(line, digit(b))
+    grown(line, b)
 }
 
-// The line at its end. What is wrong with it stays; its words are then none.
-#[tactic(auto, using(std::proofs::lemmas::Bool::Decides::nat_tests), unfolding(crate::specs::Text::closes))]
-pub fn end(line: Line, words: &mut [u64]) -> Line
-    ensures words_after { record { line = result; words = words.new } ≡ closes (record { line = line; words = words.old }) }
-    ensures counts { Counts result.count words.new }
+// The line at its end, which ends a word too. What is wrong with it stays.
+pub fn end(line: Result<Line, Fault>, words: &mut [u64]) -> Result<Line, Fault>
+    ensures words_after { record { line = result; words = words.new } ≡ closes line words.old }
+    ensures counts { IfOk result (λ line. Counts line.count words.new) }
 {
-    if line.fault != 0 {
-        return bad(line.fault);
-    }
-    ended(line, words)
+    ended(line?, words)
 }

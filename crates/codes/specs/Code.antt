@@ -1,22 +1,12 @@
 -- What a C export comes to: the refusal's number, 0 for none, what the numbers that it was lent for its answer then hold, and what the
 -- slices hold. It is read off what the bare call comes to. Assumes nothing.
 use Rattle.std.specs.Prelude.{ℕ, cond, List, [], ◌∷◌, Float}
-use Rattle.answers.specs.Outcome.{Reply, done, margins, truth, number, lengths, stands, Scaled, all_true, false_at, Ruling, gives, refuses, Outcome}
-use Rattle.answers.specs.declared.Standing.{Standing}
-use Rattle.answers.specs.declared.Standing.TheVariants.{Inside, Edge, Outside, Mirrored, NotNumber}
+use Rattle.answers.specs.Outcome.{Reply, done, margins, truth, number, lengths, stands, standing_number, Scaled, all_true, false_at, Ruling, gives, refuses, Outcome}
 
 -- what a lent number holds: a double, or a small whole number
 pub data Value : Type 0 where
   real : Float → Value
   whole : ℕ → Value
-
--- the number of a standing, in document 01's order
-abbrev pub standing_number : Standing → ℕ
-standing_number Inside = 0
-standing_number Edge = 1
-standing_number Outside = 2
-standing_number Mirrored = 3
-standing_number NotNumber = 4
 
 -- the values of an answer of document 01, in the order of the lent numbers; a scaling's true is 1, its false 0
 unfoldable pub values_of : Reply → List Value

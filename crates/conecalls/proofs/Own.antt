@@ -136,7 +136,7 @@ lengths_kept p d keeps ys xs = go (refusal_of p d (lengths_of d.writes ys) (leng
 
     go : (n : ℕ) → refusal_of p d (lengths_of d.writes ys) (lengths_of d.reads xs) ws rs ≡ n → lengths_of d.writes (call_of n (ruled d p.kind ws rs).reply ys (backs_of p d.writes ys (ruled d p.kind ws rs).news)).holds ≡ lengths_of d.writes ys
     go zero e =
-        let ready = open_at p (ms ++ ns) 0 (sym (clear_first (spot_of p) (unlike (fit_all (ms ++ ns))) (d.early p.kind) (later d p.kind ws rs) e)) refl in
+        let ready = open_at p (ms ++ ns) (sym (clear_first (spot_of p) (unlike (fit_all (ms ++ ns))) (d.early p.kind) (later d p.kind ws rs) e)) in
         let fits = fits_first ms ns ready.same in
         let here = ready.here in
         backs_long p here d.writes ys _ fits.0 (keeps p.kind here.enough ws (owns_fit p here d.writes ys fits.0) rs (owns_fit p here d.reads xs fits.1))

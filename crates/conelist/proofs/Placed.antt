@@ -2,13 +2,14 @@
 use Prim.Native.Nat.{ℕ, ◌+◌, ◌-◌, ◌≤◌, ◌<◌}
 use native.Mathlib.Omega.{arith}
 use native.Mathlib.Nat.{add-sub_cancel_left}
-use mathlib.Core.Path.{◌≡◌, refl, sym, ap, ◌∙◌}
+use mathlib.Core.Path.{◌≡◌, refl, sym, ap}
 use mathlib.Core.Bool.{Bool, true, false, cond, ◌&&◌}
 use mathlib.Core.List.{List, [], ◌∷◌, ◌++◌}
 use borrow.Author.Tests.{ltb-true, leb-true, leb-false, le-leb, lt-leb, eqb-true, eq-eqb}
 use lib.Dec.{ltb, leb, eqb}
 use lib.ListN.{take, drop}
 use lib.Ieee.{Float}
+use Rattle.answers.specs.Refusal.{unlike}
 use Rattle.answers.proofs.Laws.{both, clear_both, clear_lengths}
 use Rattle.conelist.specs.declared.Kind.{Kind}
 use Rattle.conelist.specs.declared.Kind.TheVariants.{SecondOrder}
@@ -27,7 +28,7 @@ moved at n all h = go (leb at (all - n)) refl
     go true e = let l = leb-true at (all - n) e in sym (le-leb (at + n) all (omega arith))
     go false e = let l = leb-false at (all - n) e in sym (lt-leb (at + n) all (omega arith))
 
--- ---- the test of `misplaced`: n, least, m, s, t and q are what it computed
+-- ---- the test of `check_inside`: n, least, m, s, t and q are what it computed
 module _ (p : Place) (n least m : ℕ) (s t q : Bool) (e : n ≡ dim p.kind) (f : least ≡ least_dim p.kind) (d : m ≡ block_dim p.kind) (u : s ≡ leb (p.start + n) p.entries)
     (v : t ≡ leb (p.block + m) p.blocks) (w : q ≡ counted_of p) where
   pub fine : leb least n && leb n 4096 && s && ltb p.index p.count && t && q ≡ true → 0 ≡ misplaced p
@@ -93,11 +94,11 @@ pub fits_all : (ms : List (ℕ × ℕ)) → Fits ms → fit_all ms ≡ true
 fits_all [] h = refl
 fits_all (m ∷ ms) h = rw (eq-eqb m.0 m.1 h.0) (fits_and ms h.1)
 
--- k is the number that the call computed
-pub open_at : (p : Place) (ms : List (ℕ × ℕ)) (k : ℕ) → k ≡ refusal_at p ms → k ≡ 0 → Open p ms
-open_at p ms k e z =
-    let r = clear_both _ _ (sym e ∙ z) in
-    record { here = (clear_spot p r.0).1; same = all_fit ms (clear_lengths _ r.1) }
+pub open_of : (p : Place) (ms : List (ℕ × ℕ)) → 0 ≡ spot_of p → 0 ≡ unlike (fit_all ms) → Open p ms
+open_of p ms e f = record { here = (clear_spot p (sym e)).1; same = all_fit ms (clear_lengths _ (sym f)) }
+
+pub open_at : (p : Place) (ms : List (ℕ × ℕ)) → 0 ≡ refusal_at p ms → Open p ms
+open_at p ms e = let r = clear_both _ _ (sym e) in open_of p ms (sym r.0) (sym r.1)
 
 -- ---- a range that is lent, and given back: n is what `dim` gave for m
 

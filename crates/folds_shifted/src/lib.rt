@@ -11,11 +11,9 @@ fn sumsq_shifted(z: &[f64], dz: &[f64], alpha: f64) -> f64
     ensures { result ≡ sumsq_shifted z.now dz.now alpha }
 {
     let mut s = 0.0;
-    let mut i = 0;
-    while i < z.len() {
-        let v = z[i] + alpha * dz[i];
-        s = s + v * v;
-        i += 1;
+    for (i, zi) in z.iter().enumerate() {
+        let v = zi + alpha * dz[i];
+        s += v * v;
     }
     s
 }
@@ -33,11 +31,9 @@ fn sumsq_axpby(a: f64, x: &[f64], b: f64, y: &[f64]) -> f64
     ensures { result ≡ sumsq (axpby a x.now 𝟏 (scale_of b y.now)) }
 {
     let mut s = 0.0;
-    let mut i = 0;
-    while i < x.len() {
-        let v = a * x[i] + 1.0 * (b * y[i]);
-        s = s + v * v;
-        i += 1;
+    for (i, xi) in x.iter().enumerate() {
+        let v = a * xi + 1.0 * (b * y[i]);
+        s += v * v;
     }
     s
 }

@@ -1,7 +1,7 @@
 // The block Hs of one cone of a list, packed (document 01, "Second-order rules" and "Nonnegative rules"; source documents 000, lines 217 to
 // 246, and 001, lines 96 to 101), over the cone's place: by the cone's kind, on the cone's own ranges, and the call, which needs a mark (document
 // 02, item 4).
-#![tactic(auto)]
+#![tactic(auto, using(answers::proofs::Laws::outcomes))]
 
 ghost use Rattle.std.specs.Prelude.{◌≡◌, [], ◌∷◌, length};
 ghost use Rattle.vecmath.specs.Double.{◌!◌};
@@ -11,7 +11,7 @@ ghost use Rattle.conelist.specs.Layout.{dim, least_dim, block_dim, Open, range_o
 ghost use Rattle.conecalls.specs.Deed.{comes_at};
 ghost use Rattle.list_blocks.specs.Block.{kind_hs, get_hs_deed};
 
-use answers::Answer;
+use answers::Refusal;
 use conelist::{Kind, Place};
 
 // A nonnegative cone uses no η, d.
@@ -35,8 +35,8 @@ fn hs_in(p: Place, hs: &mut [f64], w: &[f64], eta: &[f64], d: &[f64])
     let kind = p.kind;
     let k = p.index;
     let block = p.block;
-    let end = at + conelist::dim(kind);
-    let block_end = block + conelist::block_dim(kind);
+    let end = at + kind.dim();
+    let block_end = block + kind.block_dim();
     kind_hs(kind, &mut hs[block..block_end], &w[at..end], eta[k], d[k]);
 }
 
@@ -47,7 +47,7 @@ pub fn get_hs_at(
     eta: &[f64],
     d: &[f64],
     marks: &[u8],
-) -> Answer
+) -> Result<(), Refusal>
     ensures { tells (of_answer result) (hs.new ⨾ tt) ≡ comes_at p get_hs_deed hs.old w.now eta.now d.now marks.now }
 {
     let entries = p.entries;
@@ -58,10 +58,8 @@ pub fn get_hs_at(
         & (eta.len() == count)
         & (d.len() == count)
         & (marks.len() == count);
-    let no = marks::refusal(p, same, marks::unset(p, marks));
-    if no != 0 {
-        return Answer::Refused(no);
-    }
+    p.check(same)?;
+    marks::check_set(p, marks)?;
     hs_in(p, hs, w, eta, d);
-    Answer::Done
+    Ok(())
 }

@@ -19,24 +19,29 @@ ghost use Rattle.list_step.specs.Step.{step_length_deed};
 ghost use Rattle.list_products.specs.Product.{mul_w_deed, mul_winv_deed};
 ghost use Rattle.list_standing.specs.Standing.{standing_deed};
 
-use answers::{Answer, Margins, Scaling, Square, Stands, Steps};
+use answers::{Margins, Refusal, Square, Standing, StepPair};
 use conelist::Cone;
 
-pub fn margins(list: &[Cone], k: usize, z: &[f64]) -> Margins
+pub fn margins(list: &[Cone], k: usize, z: &[f64]) -> Result<Margins, Refusal>
     ensures { tells (of_margins result) tt ≡ comes_at (place_of list.now k) margins_deed z.now }
 {
     let p = conewalk::place_of(list, k);
     list_margins::margins_at(p, z)
 }
 
-pub fn scaled_unit_shift(list: &[Cone], k: usize, z: &mut [f64], alpha: f64) -> Answer
+pub fn scaled_unit_shift(list: &[Cone], k: usize, z: &mut [f64], alpha: f64) -> Result<(), Refusal>
     ensures { tells (of_answer result) (z.new ⨾ tt) ≡ comes_at (place_of list.now k) (scaled_unit_shift_deed alpha) z.old }
 {
     let p = conewalk::place_of(list, k);
     list_shifts::scaled_unit_shift_at(p, z, alpha)
 }
 
-pub fn unit_initialization(list: &[Cone], k: usize, z: &mut [f64], s: &mut [f64]) -> Answer
+pub fn unit_initialization(
+    list: &[Cone],
+    k: usize,
+    z: &mut [f64],
+    s: &mut [f64],
+) -> Result<(), Refusal>
     ensures { tells (of_answer result) (z.new ⨾ s.new ⨾ tt)
         ≡ comes_at (place_of list.now k) unit_initialization_deed z.old s.old }
 {
@@ -53,7 +58,7 @@ pub fn set_identity_scaling(
     eta: &mut [f64],
     d: &mut [f64],
     marks: &mut [u8],
-) -> Answer
+) -> Result<(), Refusal>
     ensures { tells (of_answer result) (w.new ⨾ u.new ⨾ v.new ⨾ eta.new ⨾ d.new ⨾ marks.new ⨾ tt)
         ≡ comes_at (place_of list.now k) set_identity_scaling_deed w.old u.old v.old eta.old d.old marks.old }
 {
@@ -73,7 +78,7 @@ pub fn update_scaling(
     eta: &mut [f64],
     d: &mut [f64],
     marks: &mut [u8],
-) -> Scaling
+) -> Result<bool, Refusal>
     ensures { tells (of_scaling result) (w.new ⨾ lambda.new ⨾ u.new ⨾ v.new ⨾ eta.new ⨾ d.new ⨾ marks.new ⨾ tt)
         ≡ comes_at (place_of list.now k) update_scaling_deed w.old lambda.old u.old v.old eta.old d.old marks.old s.now z.now }
 {
@@ -89,7 +94,7 @@ pub fn get_hs(
     eta: &[f64],
     d: &[f64],
     marks: &[u8],
-) -> Answer
+) -> Result<(), Refusal>
     ensures { tells (of_answer result) (hs.new ⨾ tt)
         ≡ comes_at (place_of list.now k) get_hs_deed hs.old w.now eta.now d.now marks.now }
 {
@@ -112,7 +117,7 @@ pub fn mul_hs(
     w: &[f64],
     eta: &[f64],
     marks: &[u8],
-) -> Answer
+) -> Result<(), Refusal>
     ensures { tells (of_answer result) (y.new ⨾ tt)
         ≡ comes_at (place_of list.now k) mul_hs_deed y.old x.now w.now eta.now marks.now }
 {
@@ -120,7 +125,13 @@ pub fn mul_hs(
     list_mul_hs::mul_hs_at(p, y, x, w, eta, marks)
 }
 
-pub fn affine_ds(list: &[Cone], k: usize, ds: &mut [f64], lambda: &[f64], marks: &[u8]) -> Answer
+pub fn affine_ds(
+    list: &[Cone],
+    k: usize,
+    ds: &mut [f64],
+    lambda: &[f64],
+    marks: &[u8],
+) -> Result<(), Refusal>
     ensures { tells (of_answer result) (ds.new ⨾ tt)
         ≡ comes_at (place_of list.now k) affine_ds_deed ds.old lambda.now marks.now }
 {
@@ -138,7 +149,7 @@ pub fn combined_ds_shift(
     w: &[f64],
     eta: &[f64],
     marks: &[u8],
-) -> Answer
+) -> Result<(), Refusal>
     ensures { tells (of_answer result) (shift.new ⨾ step_z.new ⨾ step_s.new ⨾ tt)
         ≡ comes_at (place_of list.now k) (combined_ds_shift_deed sigma_mu) shift.old step_z.old step_s.old w.now eta.now marks.now }
 {
@@ -156,7 +167,7 @@ pub fn ds_from_dz_offset(
     lambda: &[f64],
     eta: &[f64],
     marks: &[u8],
-) -> Answer
+) -> Result<(), Refusal>
     ensures { tells (of_answer result) (out.new ⨾ tt)
         ≡ comes_at (place_of list.now k) ds_from_dz_offset_deed out.old ds.now z.now w.now lambda.now eta.now marks.now }
 {
@@ -172,7 +183,7 @@ pub fn step_length(
     z: &[f64],
     s: &[f64],
     limit: f64,
-) -> Steps
+) -> Result<StepPair, Refusal>
     ensures { tells (of_steps result) tt
         ≡ comes_at (place_of list.now k) (step_length_deed limit) dz.now ds.now z.now s.now }
 {
@@ -190,7 +201,7 @@ pub fn mul_w(
     w: &[f64],
     eta: &[f64],
     marks: &[u8],
-) -> Answer
+) -> Result<(), Refusal>
     ensures { tells (of_answer result) (y.new ⨾ tt)
         ≡ comes_at (place_of list.now k) (mul_w_deed alpha beta) y.old x.now w.now eta.now marks.now }
 {
@@ -208,7 +219,7 @@ pub fn mul_winv(
     w: &[f64],
     eta: &[f64],
     marks: &[u8],
-) -> Answer
+) -> Result<(), Refusal>
     ensures { tells (of_answer result) (y.new ⨾ tt)
         ≡ comes_at (place_of list.now k) (mul_winv_deed alpha beta) y.old x.now w.now eta.now marks.now }
 {
@@ -216,14 +227,20 @@ pub fn mul_winv(
     list_products::mul_winv_at(p, y, x, alpha, beta, w, eta, marks)
 }
 
-pub fn circ_op(list: &[Cone], k: usize, x: &mut [f64], y: &[f64], z: &[f64]) -> Answer
+pub fn circ_op(list: &[Cone], k: usize, x: &mut [f64], y: &[f64], z: &[f64]) -> Result<(), Refusal>
     ensures { tells (of_answer result) (x.new ⨾ tt) ≡ comes_at (place_of list.now k) circ_op_deed x.old y.now z.now }
 {
     let p = conewalk::place_of(list, k);
     list_jordan::circ_op_at(p, x, y, z)
 }
 
-pub fn inv_circ_op(list: &[Cone], k: usize, x: &mut [f64], y: &[f64], z: &[f64]) -> Answer
+pub fn inv_circ_op(
+    list: &[Cone],
+    k: usize,
+    x: &mut [f64],
+    y: &[f64],
+    z: &[f64],
+) -> Result<(), Refusal>
     ensures { tells (of_answer result) (x.new ⨾ tt) ≡ comes_at (place_of list.now k) inv_circ_op_deed x.old y.now z.now }
 {
     let p = conewalk::place_of(list, k);
@@ -237,7 +254,7 @@ pub fn lambda_inv_circ_op(
     z: &[f64],
     lambda: &[f64],
     marks: &[u8],
-) -> Answer
+) -> Result<(), Refusal>
     ensures { tells (of_answer result) (x.new ⨾ tt)
         ≡ comes_at (place_of list.now k) lambda_inv_circ_op_deed x.old z.now lambda.now marks.now }
 {
@@ -245,7 +262,7 @@ pub fn lambda_inv_circ_op(
     list_jordan::lambda_inv_circ_op_at(p, x, z, lambda, marks)
 }
 
-pub fn standing(list: &[Cone], k: usize, z: &[f64]) -> Stands
+pub fn standing(list: &[Cone], k: usize, z: &[f64]) -> Result<Standing, Refusal>
     ensures { tells (of_stands result) tt ≡ comes_at (place_of list.now k) standing_deed z.now }
 {
     let p = conewalk::place_of(list, k);

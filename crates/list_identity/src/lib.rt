@@ -1,6 +1,6 @@
 // set_identity_scaling of one cone of a list (document 01, "Second-order rules" and "Nonnegative rules"; of marks document 02, item 4),
 // over the cone's place. For each: by the cone's kind, on the cone's own ranges, and the call. Written by tools/surface.
-#![tactic(auto)]
+#![tactic(auto, using(answers::proofs::Laws::outcomes))]
 
 ghost use Rattle.std.specs.Prelude.{◌≡◌, [], ◌∷◌, length};
 ghost use Rattle.answers.specs.Refusal.{Fit};
@@ -9,8 +9,9 @@ ghost use Rattle.conelist.specs.Layout.{least_dim, Open};
 ghost use Rattle.conecalls.specs.Deed.{comes_at, works_at};
 ghost use Rattle.list_identity.specs.Identity.{kind_set_identity_scaling, set_identity_scaling_unmarked, set_identity_scaling_deed};
 
-use answers::Answer;
+use answers::Refusal;
 use conelist::{Kind, Place};
+use marks::Mark;
 
 // ---- set_identity_scaling (source documents 000, lines 121 to 132, and 001, lines 73 to 75): w = (1, 0, ..), eta = 1; above 4 entries
 // also d = 1/2, u = (1/sqrt 2, 0, ..) and v = 0. lambda stays; of a nonnegative cone w = (1, 1, ..)
@@ -47,7 +48,7 @@ fn set_identity_scaling_in(
     let at = p.start;
     let kind = p.kind;
     let k = p.index;
-    let end = at + conelist::dim(kind);
+    let end = at + kind.dim();
     kind_set_identity_scaling(
         kind,
         &mut w[at..end],
@@ -66,7 +67,7 @@ pub fn set_identity_scaling_at(
     eta: &mut [f64],
     d: &mut [f64],
     marks: &mut [u8],
-) -> Answer
+) -> Result<(), Refusal>
     ensures { tells (of_answer result) (w.new ⨾ u.new ⨾ v.new ⨾ eta.new ⨾ d.new ⨾ marks.new ⨾ tt)
         ≡ comes_at p set_identity_scaling_deed w.old u.old v.old eta.old d.old marks.old }
 {
@@ -78,12 +79,8 @@ pub fn set_identity_scaling_at(
         & (eta.len() == count)
         & (d.len() == count)
         & (marks.len() == count);
-    let no = conelist::refusal(p, same);
-    if no != 0 {
-        return Answer::Refused(no);
-    }
+    p.check(same)?;
     set_identity_scaling_in(p, w, u, v, eta, d);
-    let k = p.index;
-    marks[k] = 1;
-    Answer::Done
+    marks[p.index] = u8::from(Mark::Identity);
+    Ok(())
 }

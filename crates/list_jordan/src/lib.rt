@@ -1,7 +1,7 @@
 // affine_ds, circ_op, inv_circ_op, lambda_inv_circ_op of one cone of a list (document 01, "Second-order rules" and "Nonnegative rules"; of
 // marks document 02, item 4), over the cone's place. For each: by the cone's kind, on the cone's own ranges, and the call. Written by
 // tools/surface.
-#![tactic(auto)]
+#![tactic(auto, using(answers::proofs::Laws::outcomes))]
 
 ghost use Rattle.std.specs.Prelude.{◌≡◌, [], ◌∷◌, length};
 ghost use Rattle.answers.specs.Refusal.{Fit};
@@ -10,7 +10,7 @@ ghost use Rattle.conelist.specs.Layout.{least_dim, Open};
 ghost use Rattle.conecalls.specs.Deed.{comes_at, works_at};
 ghost use Rattle.list_jordan.specs.Jordan.{kind_affine_ds, affine_ds_unmarked, affine_ds_deed, kind_circ_op, circ_op_deed, kind_inv_circ_op, inv_circ_op_deed, kind_lambda_inv_circ_op, lambda_inv_circ_op_unmarked, lambda_inv_circ_op_deed};
 
-use answers::Answer;
+use answers::Refusal;
 use conelist::{Kind, Place};
 
 // ---- affine_ds (source documents 000, lines 258 to 260, and 001, lines 110 to 115): ds = lambda's Jordan product with itself; of a
@@ -32,22 +32,20 @@ fn affine_ds_in(p: Place, ds: &mut [f64], lambda: &[f64])
 {
     let at = p.start;
     let kind = p.kind;
-    let end = at + conelist::dim(kind);
+    let end = at + kind.dim();
     kind_affine_ds(kind, &mut ds[at..end], &lambda[at..end]);
 }
 
-pub fn affine_ds_at(p: Place, ds: &mut [f64], lambda: &[f64], marks: &[u8]) -> Answer
+pub fn affine_ds_at(p: Place, ds: &mut [f64], lambda: &[f64], marks: &[u8]) -> Result<(), Refusal>
     ensures { tells (of_answer result) (ds.new ⨾ tt) ≡ comes_at p affine_ds_deed ds.old lambda.now marks.now }
 {
     let entries = p.entries;
     let count = p.count;
     let same = (ds.len() == entries) & (lambda.len() == entries) & (marks.len() == count);
-    let no = marks::refusal(p, same, marks::unscaled(p, marks));
-    if no != 0 {
-        return Answer::Refused(no);
-    }
+    p.check(same)?;
+    marks::check_scaled(p, marks)?;
     affine_ds_in(p, ds, lambda);
-    Answer::Done
+    Ok(())
 }
 
 // ---- circ_op (source documents 000, lines 347 to 349 and 360 to 367, and 001, lines 206 to 208 and 218 to 225): x = the Jordan product of
@@ -69,21 +67,18 @@ fn circ_op_in(p: Place, x: &mut [f64], y: &[f64], z: &[f64])
 {
     let at = p.start;
     let kind = p.kind;
-    let end = at + conelist::dim(kind);
+    let end = at + kind.dim();
     kind_circ_op(kind, &mut x[at..end], &y[at..end], &z[at..end]);
 }
 
-pub fn circ_op_at(p: Place, x: &mut [f64], y: &[f64], z: &[f64]) -> Answer
+pub fn circ_op_at(p: Place, x: &mut [f64], y: &[f64], z: &[f64]) -> Result<(), Refusal>
     ensures { tells (of_answer result) (x.new ⨾ tt) ≡ comes_at p circ_op_deed x.old y.now z.now }
 {
     let entries = p.entries;
     let same = (x.len() == entries) & (y.len() == entries) & (z.len() == entries);
-    let no = conelist::refusal(p, same);
-    if no != 0 {
-        return Answer::Refused(no);
-    }
+    p.check(same)?;
     circ_op_in(p, x, y, z);
-    Answer::Done
+    Ok(())
 }
 
 // ---- inv_circ_op (source documents 000, lines 351 to 353 and 369 to 382, and 001, lines 210 to 212 and 227 to 234): the x whose Jordan
@@ -105,21 +100,18 @@ fn inv_circ_op_in(p: Place, x: &mut [f64], y: &[f64], z: &[f64])
 {
     let at = p.start;
     let kind = p.kind;
-    let end = at + conelist::dim(kind);
+    let end = at + kind.dim();
     kind_inv_circ_op(kind, &mut x[at..end], &y[at..end], &z[at..end]);
 }
 
-pub fn inv_circ_op_at(p: Place, x: &mut [f64], y: &[f64], z: &[f64]) -> Answer
+pub fn inv_circ_op_at(p: Place, x: &mut [f64], y: &[f64], z: &[f64]) -> Result<(), Refusal>
     ensures { tells (of_answer result) (x.new ⨾ tt) ≡ comes_at p inv_circ_op_deed x.old y.now z.now }
 {
     let entries = p.entries;
     let same = (x.len() == entries) & (y.len() == entries) & (z.len() == entries);
-    let no = conelist::refusal(p, same);
-    if no != 0 {
-        return Answer::Refused(no);
-    }
+    p.check(same)?;
     inv_circ_op_in(p, x, y, z);
-    Answer::Done
+    Ok(())
 }
 
 // ---- lambda_inv_circ_op (source documents 000, lines 325 to 327, and 001, lines 177 to 179): the x whose Jordan product with lambda is z;
@@ -141,7 +133,7 @@ fn lambda_inv_circ_op_in(p: Place, x: &mut [f64], z: &[f64], lambda: &[f64])
 {
     let at = p.start;
     let kind = p.kind;
-    let end = at + conelist::dim(kind);
+    let end = at + kind.dim();
     kind_lambda_inv_circ_op(kind, &mut x[at..end], &z[at..end], &lambda[at..end]);
 }
 
@@ -151,7 +143,7 @@ pub fn lambda_inv_circ_op_at(
     z: &[f64],
     lambda: &[f64],
     marks: &[u8],
-) -> Answer
+) -> Result<(), Refusal>
     ensures { tells (of_answer result) (x.new ⨾ tt) ≡ comes_at p lambda_inv_circ_op_deed x.old z.now lambda.now marks.now }
 {
     let entries = p.entries;
@@ -160,10 +152,8 @@ pub fn lambda_inv_circ_op_at(
         & (z.len() == entries)
         & (lambda.len() == entries)
         & (marks.len() == count);
-    let no = marks::refusal(p, same, marks::unscaled(p, marks));
-    if no != 0 {
-        return Answer::Refused(no);
-    }
+    p.check(same)?;
+    marks::check_scaled(p, marks)?;
     lambda_inv_circ_op_in(p, x, z, lambda);
-    Answer::Done
+    Ok(())
 }

@@ -3,12 +3,13 @@ use Prim.Native.Nat.{ℕ}
 use mathlib.Core.Path.{◌≡◌}
 use mathlib.Core.List.{List}
 use lib.Ieee.{Float}
-use Rattle.answers.specs.declared.Answer.{Answer}
+use Rattle.std.specs.Prelude.{Result}
+use Rattle.answers.specs.declared.Refusal.{Refusal}
 use Rattle.answers.specs.Outcome.{tells, of_answer}
 use Rattle.answers.proofs.Unique.{one_answer}
 use Rattle.conelist.specs.declared.Place.{Place}
 use Rattle.conecalls.specs.Deed.{Whole, Tuple, comes_at}
 use Rattle.list_mul_hs.specs.Block.{mul_hs_deed}
 
-pub mul_hs_at_lem : (p : Place) {r r' : Answer} (y x w η : List Float) (marks : List ℕ) {e e' : Tuple Whole mul_hs_deed.writes} → tells (of_answer r) e ≡ comes_at p mul_hs_deed y x w η marks → tells (of_answer r') e' ≡ comes_at p mul_hs_deed y x w η marks → (r ≡ r') × (e ≡ e')
+pub mul_hs_at_lem : (p : Place) {r r' : Result (Unit {0}) Refusal} (y x w η : List Float) (marks : List ℕ) {e e' : Tuple Whole mul_hs_deed.writes} → tells (of_answer r) e ≡ comes_at p mul_hs_deed y x w η marks → tells (of_answer r') e' ≡ comes_at p mul_hs_deed y x w η marks → (r ≡ r') × (e ≡ e')
 mul_hs_at_lem p y x w η marks = one_answer

@@ -1,6 +1,6 @@
 // mul_w, mul_winv of one cone of a list (document 01, "Second-order rules" and "Nonnegative rules"; of marks document 02, item 4), over the
 // cone's place. For each: by the cone's kind, on the cone's own ranges, and the call. Written by tools/surface.
-#![tactic(auto)]
+#![tactic(auto, using(answers::proofs::Laws::outcomes))]
 
 ghost use Rattle.std.specs.Prelude.{◌≡◌, [], ◌∷◌, length};
 ghost use Rattle.answers.specs.Refusal.{Fit};
@@ -9,7 +9,7 @@ ghost use Rattle.conelist.specs.Layout.{least_dim, Open};
 ghost use Rattle.conecalls.specs.Deed.{comes_at, works_at};
 ghost use Rattle.list_products.specs.Product.{kind_mul_w, mul_w_unmarked, mul_w_deed, kind_mul_winv, mul_winv_unmarked, mul_winv_deed};
 
-use answers::Answer;
+use answers::Refusal;
 use conelist::{Kind, Place};
 
 // ---- mul_w (source documents 000, lines 329 to 332 and 504 to 516, and 001, lines 181 to 187): y = alpha*W*x + beta*y; of a nonnegative
@@ -32,7 +32,7 @@ fn mul_w_in(p: Place, y: &mut [f64], x: &[f64], alpha: f64, beta: f64, w: &[f64]
     let at = p.start;
     let kind = p.kind;
     let k = p.index;
-    let end = at + conelist::dim(kind);
+    let end = at + kind.dim();
     kind_mul_w(
         kind,
         &mut y[at..end],
@@ -53,7 +53,7 @@ pub fn mul_w_at(
     w: &[f64],
     eta: &[f64],
     marks: &[u8],
-) -> Answer
+) -> Result<(), Refusal>
     ensures { tells (of_answer result) (y.new ⨾ tt)
         ≡ comes_at p (mul_w_deed alpha beta) y.old x.now w.now eta.now marks.now }
 {
@@ -64,12 +64,10 @@ pub fn mul_w_at(
         & (w.len() == entries)
         & (eta.len() == count)
         & (marks.len() == count);
-    let no = marks::refusal(p, same, marks::unset(p, marks));
-    if no != 0 {
-        return Answer::Refused(no);
-    }
+    p.check(same)?;
+    marks::check_set(p, marks)?;
     mul_w_in(p, y, x, alpha, beta, w, eta);
-    Answer::Done
+    Ok(())
 }
 
 // ---- mul_winv (source documents 000, lines 334 to 336 and 518 to 530, and 001, lines 189 to 195): y = alpha*x/W + beta*y, with W's
@@ -92,7 +90,7 @@ fn mul_winv_in(p: Place, y: &mut [f64], x: &[f64], alpha: f64, beta: f64, w: &[f
     let at = p.start;
     let kind = p.kind;
     let k = p.index;
-    let end = at + conelist::dim(kind);
+    let end = at + kind.dim();
     kind_mul_winv(
         kind,
         &mut y[at..end],
@@ -113,7 +111,7 @@ pub fn mul_winv_at(
     w: &[f64],
     eta: &[f64],
     marks: &[u8],
-) -> Answer
+) -> Result<(), Refusal>
     ensures { tells (of_answer result) (y.new ⨾ tt)
         ≡ comes_at p (mul_winv_deed alpha beta) y.old x.now w.now eta.now marks.now }
 {
@@ -124,10 +122,8 @@ pub fn mul_winv_at(
         & (w.len() == entries)
         & (eta.len() == count)
         & (marks.len() == count);
-    let no = marks::refusal(p, same, marks::unset(p, marks));
-    if no != 0 {
-        return Answer::Refused(no);
-    }
+    p.check(same)?;
+    marks::check_set(p, marks)?;
     mul_winv_in(p, y, x, alpha, beta, w, eta);
-    Answer::Done
+    Ok(())
 }

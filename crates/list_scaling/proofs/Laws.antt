@@ -25,13 +25,13 @@ module _ (p : Place) (s z w lambda u v η d : List Float) (marks : List ℕ) whe
   abbrev asked : List (ℕ × ℕ)
   asked = lengths_at p s z w lambda u v η d marks
 
-  -- n is what `spot` gave
+  -- n is the number in what `check_spot` gave
   pub alike : {n : ℕ} → Fits asked → n ≡ spot_of p → n ≡ spot_of p ⊳ unlike (fit_all asked)
   unfolding unlike
   alike f e = e ∙ sym (first_none (spot_of p)) ∙ ap (λ t. spot_of p ⊳ unlike t) (sym (fits_all asked f))
 
-  pub opened : {n : ℕ} → Fits asked → n ≡ spot_of p → n ≡ 0 → Open p asked
-  opened f e zero = record { here = (clear_spot p (sym e ∙ zero)).1; same = f }
+  pub opened : Fits asked → 0 ≡ spot_of p → Open p asked
+  opened f e = record { here = (clear_spot p (sym e)).1; same = f }
 
   -- what the functions behind the call have of that: all but the marks, and the marks
   pub unmarked : Open p asked → Open p (tests_of p update_scaling_unmarked.writes (lengths_of update_scaling_unmarked.writes (w ⨾ lambda ⨾ u ⨾ v ⨾ η ⨾ d ⨾ tt)) ++ tests_of p update_scaling_unmarked.reads (lengths_of update_scaling_unmarked.reads (s ⨾ z ⨾ tt)))

@@ -1,6 +1,7 @@
 // `update_scaling` of one cone of a list (document 01, "Second-order rules" and "Nonnegative rules"; source documents 000, lines 134 to 211, and
 // 001, lines 77 to 90), over the cone's place: by the cone's kind, on the cone's own ranges, and the call, which sets the mark (document 02, item 4).
-#![tactic(auto)]
+// The stored buffers travel together but stay parameters: document 01 asks for functions on slices and numbers, and C lends each by itself.
+#![tactic(auto, using(answers::proofs::Laws::outcomes))]
 
 ghost use Rattle.std.specs.Prelude.{◌≡◌, [], ◌∷◌, length};
 ghost use Rattle.answers.specs.Refusal.{Fit};
@@ -10,7 +11,7 @@ ghost use Rattle.conelist.specs.Layout.{least_dim, Fits, Open};
 ghost use Rattle.conecalls.specs.Deed.{comes_at, works_at};
 ghost use Rattle.list_scaling.specs.Scaling.{kind_scaling, update_scaling_unmarked, update_scaling_deed, lengths_at};
 
-use answers::Scaling;
+use answers::Refusal;
 use conelist::{Kind, Place};
 
 // A nonnegative cone uses no u, v, η, d: they stay.
@@ -64,7 +65,7 @@ fn scaling_in(
     let at = p.start;
     let kind = p.kind;
     let k = p.index;
-    let end = at + conelist::dim(kind);
+    let end = at + kind.dim();
     kind_scaling(
         kind,
         &s[at..end],
@@ -76,6 +77,32 @@ fn scaling_in(
         &mut eta[k],
         &mut d[k],
     )
+}
+
+// The same, and the mark.
+fn scaling_marked(
+    p: Place,
+    s: &[f64],
+    z: &[f64],
+    w: &mut [f64],
+    lambda: &mut [f64],
+    u: &mut [f64],
+    v: &mut [f64],
+    eta: &mut [f64],
+    d: &mut [f64],
+    marks: &mut [u8],
+) -> bool
+    requires { Open p (lengths_at p s.now z.now w.old lambda.old u.old v.old eta.old d.old marks.old) }
+    ensures { record {
+      reply = truth result;
+      news = (w.new ⨾ lambda.new ⨾ u.new ⨾ v.new ⨾ eta.new ⨾ d.new ⨾ marks.new ⨾ tt);
+    }
+        ≡ works_at p update_scaling_deed w.old lambda.old u.old v.old eta.old d.old marks.old
+        s.now z.now }
+{
+    let truth = scaling_in(p, s, z, w, lambda, u, v, eta, d);
+    marks::set_scaled(marks, p.index, truth);
+    truth
 }
 
 // The call, where the lengths are known to fit: a walk over the list tests them once.
@@ -90,21 +117,15 @@ pub fn update_scaling_fit(
     eta: &mut [f64],
     d: &mut [f64],
     marks: &mut [u8],
-) -> Scaling
+) -> Result<bool, Refusal>
     requires { Fits (lengths_at p s.now z.now w.old lambda.old u.old v.old eta.old d.old marks.old) }
     ensures { tells (of_scaling result)
         (w.new ⨾ lambda.new ⨾ u.new ⨾ v.new ⨾ eta.new ⨾ d.new ⨾ marks.new ⨾ tt)
         ≡ comes_at p update_scaling_deed w.old lambda.old u.old v.old eta.old d.old
         marks.old s.now z.now }
 {
-    let no = conelist::spot(p);
-    if no != 0 {
-        return Scaling::Refused(no);
-    }
-    let truth = scaling_in(p, s, z, w, lambda, u, v, eta, d);
-    let k = p.index;
-    marks::set_scaled(marks, k, truth);
-    Scaling::Truth(truth)
+    p.check_spot()?;
+    Ok(scaling_marked(p, s, z, w, lambda, u, v, eta, d, marks))
 }
 
 pub fn update_scaling_at(
@@ -118,7 +139,7 @@ pub fn update_scaling_at(
     eta: &mut [f64],
     d: &mut [f64],
     marks: &mut [u8],
-) -> Scaling
+) -> Result<bool, Refusal>
     ensures { tells (of_scaling result)
         (w.new ⨾ lambda.new ⨾ u.new ⨾ v.new ⨾ eta.new ⨾ d.new ⨾ marks.new ⨾ tt)
         ≡ comes_at p update_scaling_deed w.old lambda.old u.old v.old eta.old d.old
@@ -135,12 +156,6 @@ pub fn update_scaling_at(
         & (marks.len() == count)
         & (s.len() == entries)
         & (z.len() == entries);
-    let no = conelist::refusal(p, same);
-    if no != 0 {
-        return Scaling::Refused(no);
-    }
-    let truth = scaling_in(p, s, z, w, lambda, u, v, eta, d);
-    let k = p.index;
-    marks::set_scaled(marks, k, truth);
-    Scaling::Truth(truth)
+    p.check(same)?;
+    Ok(scaling_marked(p, s, z, w, lambda, u, v, eta, d, marks))
 }

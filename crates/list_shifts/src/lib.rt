@@ -1,7 +1,7 @@
 // scaled_unit_shift, combined_ds_shift, ds_from_dz_offset of one cone of a list (document 01, "Second-order rules" and "Nonnegative rules";
 // of marks document 02, item 4), over the cone's place. For each: by the cone's kind, on the cone's own ranges, and the call. Written by
 // tools/surface.
-#![tactic(auto)]
+#![tactic(auto, using(answers::proofs::Laws::outcomes))]
 
 ghost use Rattle.std.specs.Prelude.{◌≡◌, [], ◌∷◌, length};
 ghost use Rattle.answers.specs.Refusal.{Fit};
@@ -10,7 +10,7 @@ ghost use Rattle.conelist.specs.Layout.{least_dim, Open};
 ghost use Rattle.conecalls.specs.Deed.{comes_at, works_at};
 ghost use Rattle.list_shifts.specs.Shift.{kind_scaled_unit_shift, scaled_unit_shift_deed, kind_combined_ds_shift, combined_ds_shift_unmarked, combined_ds_shift_deed, kind_ds_from_dz_offset, ds_from_dz_offset_unmarked, ds_from_dz_offset_deed};
 
-use answers::Answer;
+use answers::Refusal;
 use conelist::{Kind, Place};
 
 // ---- scaled_unit_shift (source documents 000, lines 110 to 112, and 001, lines 64 to 66): z += alpha*(1, 0, ..); of a nonnegative cone z
@@ -32,21 +32,18 @@ fn scaled_unit_shift_in(p: Place, z: &mut [f64], alpha: f64)
 {
     let at = p.start;
     let kind = p.kind;
-    let end = at + conelist::dim(kind);
+    let end = at + kind.dim();
     kind_scaled_unit_shift(kind, &mut z[at..end], alpha);
 }
 
-pub fn scaled_unit_shift_at(p: Place, z: &mut [f64], alpha: f64) -> Answer
+pub fn scaled_unit_shift_at(p: Place, z: &mut [f64], alpha: f64) -> Result<(), Refusal>
     ensures { tells (of_answer result) (z.new ⨾ tt) ≡ comes_at p (scaled_unit_shift_deed alpha) z.old }
 {
     let entries = p.entries;
     let same = z.len() == entries;
-    let no = conelist::refusal(p, same);
-    if no != 0 {
-        return Answer::Refused(no);
-    }
+    p.check(same)?;
     scaled_unit_shift_in(p, z, alpha);
-    Answer::Done
+    Ok(())
 }
 
 // ---- combined_ds_shift (source document 002, lines 53 to 84): shift = Ds*Dz - sigma_mu*(1, 0, ..), with Dz = W*step_z and Ds = W's
@@ -91,7 +88,7 @@ fn combined_ds_shift_in(
     let at = p.start;
     let kind = p.kind;
     let k = p.index;
-    let end = at + conelist::dim(kind);
+    let end = at + kind.dim();
     kind_combined_ds_shift(
         kind,
         &mut shift[at..end],
@@ -112,7 +109,7 @@ pub fn combined_ds_shift_at(
     w: &[f64],
     eta: &[f64],
     marks: &[u8],
-) -> Answer
+) -> Result<(), Refusal>
     ensures { tells (of_answer result) (shift.new ⨾ step_z.new ⨾ step_s.new ⨾ tt)
         ≡ comes_at p (combined_ds_shift_deed sigma_mu) shift.old step_z.old step_s.old w.now eta.now marks.now }
 {
@@ -124,12 +121,10 @@ pub fn combined_ds_shift_at(
         & (w.len() == entries)
         & (eta.len() == count)
         & (marks.len() == count);
-    let no = marks::refusal(p, same, marks::unset(p, marks));
-    if no != 0 {
-        return Answer::Refused(no);
-    }
+    p.check(same)?;
+    marks::check_set(p, marks)?;
     combined_ds_shift_in(p, shift, step_z, step_s, sigma_mu, w, eta);
-    Answer::Done
+    Ok(())
 }
 
 // ---- ds_from_dz_offset (source documents 000, lines 266 to 287, and 001, lines 122 to 126): out = the constant part of Ds as a function
@@ -169,7 +164,7 @@ fn ds_from_dz_offset_in(
     let at = p.start;
     let kind = p.kind;
     let k = p.index;
-    let end = at + conelist::dim(kind);
+    let end = at + kind.dim();
     kind_ds_from_dz_offset(
         kind,
         &mut out[at..end],
@@ -190,7 +185,7 @@ pub fn ds_from_dz_offset_at(
     lambda: &[f64],
     eta: &[f64],
     marks: &[u8],
-) -> Answer
+) -> Result<(), Refusal>
     ensures { tells (of_answer result) (out.new ⨾ tt)
         ≡ comes_at p ds_from_dz_offset_deed out.old ds.now z.now w.now lambda.now eta.now marks.now }
 {
@@ -203,10 +198,8 @@ pub fn ds_from_dz_offset_at(
         & (lambda.len() == entries)
         & (eta.len() == count)
         & (marks.len() == count);
-    let no = marks::refusal(p, same, marks::offset_unscaled(p, marks));
-    if no != 0 {
-        return Answer::Refused(no);
-    }
+    p.check(same)?;
+    marks::check_offset(p, marks)?;
     ds_from_dz_offset_in(p, out, ds, z, w, lambda, eta);
-    Answer::Done
+    Ok(())
 }

@@ -1,6 +1,6 @@
 // The standing of one cone of a list (document 01, "Standing"), over the cone's place: by the cone's kind, on the cone's own range, and the
 // call.
-#![tactic(auto)]
+#![tactic(auto, using(answers::proofs::Laws::outcomes))]
 
 ghost use Rattle.std.specs.Prelude.{◌≡◌, [], ◌∷◌, length};
 ghost use Rattle.answers.specs.Refusal.{Fit};
@@ -9,7 +9,7 @@ ghost use Rattle.conelist.specs.Layout.{least_dim, Open, range_of};
 ghost use Rattle.conecalls.specs.Deed.{comes_at};
 ghost use Rattle.list_standing.specs.Standing.{kind_standing, standing_deed};
 
-use answers::{Standing, Stands};
+use answers::{Refusal, Standing};
 use conelist::{Kind, Place};
 
 fn kind_standing(kind: Kind, z: &[f64]) -> Standing
@@ -28,17 +28,14 @@ fn standing_in(p: Place, z: &[f64]) -> Standing
 {
     let at = p.start;
     let kind = p.kind;
-    let end = at + conelist::dim(kind);
+    let end = at + kind.dim();
     kind_standing(kind, &z[at..end])
 }
 
-pub fn standing_at(p: Place, z: &[f64]) -> Stands
+pub fn standing_at(p: Place, z: &[f64]) -> Result<Standing, Refusal>
     ensures { tells (of_stands result) tt ≡ comes_at p standing_deed z.now }
 {
     let entries = p.entries;
-    let no = conelist::refusal(p, z.len() == entries);
-    if no != 0 {
-        return Stands::Refused(no);
-    }
-    Stands::As(standing_in(p, z))
+    p.check(z.len() == entries)?;
+    Ok(standing_in(p, z))
 }

@@ -1,6 +1,6 @@
 // The step lengths of one cone of a list (document 01, "Second-order rules" and "Nonnegative rules"; source documents 000, lines 289 to 302 and
 // 421 to 495, and 001, step_length), over the cone's place: by the cone's kind, on the cone's own ranges, and the call.
-#![tactic(auto)]
+#![tactic(auto, using(answers::proofs::Laws::outcomes))]
 
 ghost use Rattle.std.specs.Prelude.{◌≡◌, [], ◌∷◌, length};
 ghost use Rattle.answers.specs.Refusal.{◌⊳◌, unlike, bad_limit, Fit};
@@ -9,7 +9,7 @@ ghost use Rattle.conelist.specs.Layout.{least_dim, spot_of, Open, range_of};
 ghost use Rattle.conecalls.specs.Deed.{comes_at};
 ghost use Rattle.list_step.specs.Step.{kind_step, step_length_deed};
 
-use answers::{StepPair, Steps};
+use answers::{Refusal, StepPair};
 use conelist::{Kind, Place};
 
 pub fn kind_step_length(
@@ -37,7 +37,7 @@ fn step_length_in(p: Place, dz: &[f64], ds: &[f64], z: &[f64], s: &[f64], limit:
 {
     let at = p.start;
     let kind = p.kind;
-    let end = at + conelist::dim(kind);
+    let end = at + kind.dim();
     kind_step_length(
         kind,
         &dz[at..end],
@@ -48,14 +48,15 @@ fn step_length_in(p: Place, dz: &[f64], ds: &[f64], z: &[f64], s: &[f64], limit:
     )
 }
 
-// The refusals of a step over a place, whose limit is tested last.
-fn step_refusal(p: Place, same: bool, limit: f64) -> u8
-    ensures { result ≡ (spot_of p ⊳ unlike same) ⊳ bad_limit limit }
-{
-    answers::first_refusal(conelist::refusal(p, same), answers::limit_refusal(limit))
-}
-
-pub fn step_length_at(p: Place, dz: &[f64], ds: &[f64], z: &[f64], s: &[f64], limit: f64) -> Steps
+// The limit is tested last.
+pub fn step_length_at(
+    p: Place,
+    dz: &[f64],
+    ds: &[f64],
+    z: &[f64],
+    s: &[f64],
+    limit: f64,
+) -> Result<StepPair, Refusal>
     ensures { tells (of_steps result) tt ≡ comes_at p (step_length_deed limit) dz.now ds.now z.now s.now }
 {
     let entries = p.entries;
@@ -63,9 +64,7 @@ pub fn step_length_at(p: Place, dz: &[f64], ds: &[f64], z: &[f64], s: &[f64], li
         & (ds.len() == entries)
         & (z.len() == entries)
         & (s.len() == entries);
-    let no = step_refusal(p, same, limit);
-    if no != 0 {
-        return Steps::Refused(no);
-    }
-    Steps::Lengths(step_length_in(p, dz, ds, z, s, limit))
+    p.check(same)?;
+    answers::check_limit(limit)?;
+    Ok(step_length_in(p, dz, ds, z, s, limit))
 }

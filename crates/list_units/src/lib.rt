@@ -1,6 +1,6 @@
 // Unit initialisation of one cone of a list (document 01, "Second-order rules" and "Nonnegative rules"; source documents 000, lines 114 to 119,
 // and 001, lines 68 to 71), over the cone's place: by the cone's kind, on the cone's own ranges, and the call.
-#![tactic(auto)]
+#![tactic(auto, using(answers::proofs::Laws::outcomes))]
 
 ghost use Rattle.std.specs.Prelude.{◌≡◌, [], ◌∷◌, length};
 ghost use Rattle.answers.specs.Refusal.{Fit};
@@ -9,7 +9,7 @@ ghost use Rattle.conelist.specs.Layout.{least_dim, Open};
 ghost use Rattle.conecalls.specs.Deed.{comes_at, works_at};
 ghost use Rattle.list_units.specs.Units.{kind_unit, unit_initialization_deed};
 
-use answers::Answer;
+use answers::Refusal;
 use conelist::{Kind, Place};
 
 fn kind_unit(kind: Kind, z: &mut [f64])
@@ -28,19 +28,16 @@ fn unit_initialization_in(p: Place, z: &mut [f64], s: &mut [f64])
 {
     let at = p.start;
     let kind = p.kind;
-    let end = at + conelist::dim(kind);
+    let end = at + kind.dim();
     kind_unit(kind, &mut z[at..end]);
     kind_unit(kind, &mut s[at..end]);
 }
 
-pub fn unit_initialization_at(p: Place, z: &mut [f64], s: &mut [f64]) -> Answer
+pub fn unit_initialization_at(p: Place, z: &mut [f64], s: &mut [f64]) -> Result<(), Refusal>
     ensures { tells (of_answer result) (z.new ⨾ s.new ⨾ tt) ≡ comes_at p unit_initialization_deed z.old s.old }
 {
     let entries = p.entries;
-    let no = conelist::refusal(p, (z.len() == entries) & (s.len() == entries));
-    if no != 0 {
-        return Answer::Refused(no);
-    }
+    p.check((z.len() == entries) & (s.len() == entries))?;
     unit_initialization_in(p, z, s);
-    Answer::Done
+    Ok(())
 }

@@ -1,3 +1,2 @@
--- `Laws`: which records are lent. `Unique`: one answer each.
-pub mod Laws
+-- `Unique`: one answer each.
 pub mod Unique

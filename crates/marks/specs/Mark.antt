@@ -1,9 +1,19 @@
 -- Document 02, item 4: a cone's mark, "Fresh, Identity or Scaled", as a number, and 8, the refusal of an unfit one. Assumes nothing.
 use Rattle.std.specs.Prelude.{ℕ, cond, ◌||◌, eqb}
+use Rattle.marks.specs.declared.Mark.{Mark}
+use Rattle.marks.specs.declared.Mark.TheVariants.{Fresh, Identity, Scaled}
 use Rattle.conelist.specs.declared.Kind.{Kind}
 use Rattle.conelist.specs.declared.Kind.TheVariants.{Nonnegative, SecondOrder}
 
 -- Fresh is 0; "an unknown mark counts as Fresh", so that nothing asks for it
+unfoldable pub read_mark : ℕ → Mark
+read_mark n = cond (eqb n 1) Identity (cond (eqb n 2) Scaled Fresh)
+
+abbrev pub mark_number : Mark → ℕ
+mark_number Fresh = 0
+mark_number Identity = 1
+mark_number Scaled = 2
+
 abbrev pub identity_mark : ℕ
 identity_mark = 1
 

@@ -29,14 +29,13 @@ fn roots(y: &mut [f64], x: &[f64])
     requires { length x.now ≡ length y.old }
     ensures { y.new ≡ roots x.now }
 {
-    let mut i = 0;
-    while i < y.len() {
-        y[i] = root::sqrt(x[i]);
-        i += 1;
+    for (i, v) in y.iter_mut().enumerate() {
+        *v = root::sqrt(x[i]);
     }
 }
 
 // y = √x, and whether it was done
+#[tactic(auto, using(std::proofs::lemmas::Bool::Decides::nat_tests), unfolding(crate::specs::Fitted::fitted_of))]
 #[unsafe(no_mangle)]
 pub extern "C" fn measured_sqrt_all(y: &mut [f64], x: &[f64]) -> bool
     ensures value { result ≡ fitted_of x.now y.old true false }
@@ -50,6 +49,7 @@ pub extern "C" fn measured_sqrt_all(y: &mut [f64], x: &[f64]) -> bool
 }
 
 // x·y, or a NaN
+#[tactic(auto, using(std::proofs::lemmas::Bool::Decides::nat_tests), unfolding(crate::specs::Fitted::fitted_of))]
 #[unsafe(no_mangle)]
 pub extern "C" fn measured_dot(x: &[f64], y: &[f64]) -> f64
     ensures { result ≡ fitted_of y.now x.now (dot x.now y.now) nan }
@@ -61,6 +61,7 @@ pub extern "C" fn measured_dot(x: &[f64], y: &[f64]) -> f64
 }
 
 // y = a·x + b·y, and whether it was done
+#[tactic(auto, using(std::proofs::lemmas::Bool::Decides::nat_tests), unfolding(crate::specs::Fitted::fitted_of))]
 #[unsafe(no_mangle)]
 pub extern "C" fn measured_axpby(y: &mut [f64], a: f64, x: &[f64], b: f64) -> bool
     ensures value { result ≡ fitted_of x.now y.old true false }

@@ -1,13 +1,13 @@
 // The shift in the combined step, of the nonnegative cone (source document 002, lines 53 to 84): the bare call, and behind it the kernel
 // that it calls once nothing is refused. step_z and step_s are overwritten, and shift is the workspace.
-#![tactic(auto)]
+#![tactic(auto, using(answers::proofs::Laws::outcomes, answers::proofs::Laws::fits), unfolding(crate::specs::Combined::nonneg_combined_shift))]
 
 ghost use Rattle.std.specs.Prelude.{◌≡◌, [], ◌∷◌, length};
 ghost use Rattle.answers.specs.Refusal.{Fit};
 ghost use Rattle.answers.specs.Outcome.{tells, of_answer, ◌⨾◌};
 ghost use Rattle.nn_combined.specs.Combined.{nonneg_combined_shift, nn_combined_ds_shift};
 
-use answers::Answer;
+use answers::Refusal;
 
 pub fn combined_ds_shift(
     shift: &mut [f64],
@@ -37,17 +37,14 @@ pub fn nn_combined_ds_shift(
     step_s: &mut [f64],
     sigma_mu: f64,
     w: &[f64],
-) -> Answer
+) -> Result<(), Refusal>
     ensures { tells (of_answer result) (shift.new ⨾ step_z.new ⨾ step_s.new ⨾ tt)
         ≡ nn_combined_ds_shift shift.old step_z.old step_s.old sigma_mu w.now }
 {
     let same = (step_z.len() == shift.len())
         & (step_s.len() == shift.len())
         & (w.len() == shift.len());
-    let no = answers::refusal(0, shift.len(), same);
-    if no != 0 {
-        return Answer::Refused(no);
-    }
+    answers::check(0, shift.len(), same)?;
     combined_ds_shift(shift, step_z, step_s, sigma_mu, w);
-    Answer::Done
+    Ok(())
 }

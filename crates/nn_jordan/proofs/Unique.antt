@@ -2,12 +2,13 @@
 use mathlib.Core.Path.{◌≡◌}
 use mathlib.Core.List.{List}
 use lib.Ieee.{Float}
-use Rattle.answers.specs.declared.Answer.{Answer}
+use Rattle.std.specs.Prelude.{Result}
+use Rattle.answers.specs.declared.Refusal.{Refusal}
 use Rattle.answers.specs.Outcome.{tells, of_answer, Contents}
 use Rattle.answers.proofs.Unique.{one_answer}
 use Rattle.nn_jordan.specs.Jordan.{nn_affine_ds, nn_circ_op}
 
-module _ {r r' : Answer} {e e' : Contents 1 0} where
+module _ {r r' : Result (Unit {0}) Refusal} {e e' : Contents 1 0} where
   nn_affine_ds_lem : (ds lambda : List Float) → tells (of_answer r) e ≡ nn_affine_ds ds lambda → tells (of_answer r') e' ≡ nn_affine_ds ds lambda → (r ≡ r') × (e ≡ e')
   nn_affine_ds_lem ds lambda = one_answer
 

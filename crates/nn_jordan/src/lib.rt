@@ -1,13 +1,13 @@
 // The nonnegative cone (source document 001, nonnegativecone.rs): the Jordan product and affine_ds. The bare calls, and behind each the
 // kernel that it calls once nothing is refused.
-#![tactic(auto)]
+#![tactic(auto, using(answers::proofs::Laws::outcomes, answers::proofs::Laws::fits))]
 
 ghost use Rattle.std.specs.Prelude.{◌≡◌, [], ◌∷◌, length};
 ghost use Rattle.answers.specs.Refusal.{Fit};
 ghost use Rattle.answers.specs.Outcome.{tells, of_answer, ◌⨾◌};
 ghost use Rattle.nn_jordan.specs.Jordan.{nonneg_affine_ds, nonneg_circ, nn_affine_ds, nn_circ_op};
 
-use answers::Answer;
+use answers::Refusal;
 
 // ---- the Jordan product
 
@@ -19,15 +19,12 @@ pub fn circ_op(x: &mut [f64], y: &[f64], z: &[f64])
 }
 
 // x = y ∘ z
-pub fn nn_circ_op(x: &mut [f64], y: &[f64], z: &[f64]) -> Answer
+pub fn nn_circ_op(x: &mut [f64], y: &[f64], z: &[f64]) -> Result<(), Refusal>
     ensures { tells (of_answer result) (x.new ⨾ tt) ≡ nn_circ_op x.old y.now z.now }
 {
-    let no = answers::refusal(0, x.len(), (y.len() == x.len()) & (z.len() == x.len()));
-    if no != 0 {
-        return Answer::Refused(no);
-    }
+    answers::check(0, x.len(), (y.len() == x.len()) & (z.len() == x.len()))?;
     circ_op(x, y, z);
-    Answer::Done
+    Ok(())
 }
 
 // ---- the affine part of ds
@@ -40,13 +37,10 @@ pub fn affine_ds(ds: &mut [f64], lambda: &[f64])
 }
 
 // ds = lambda·lambda, entry by entry
-pub fn nn_affine_ds(ds: &mut [f64], lambda: &[f64]) -> Answer
+pub fn nn_affine_ds(ds: &mut [f64], lambda: &[f64]) -> Result<(), Refusal>
     ensures { tells (of_answer result) (ds.new ⨾ tt) ≡ nn_affine_ds ds.old lambda.now }
 {
-    let no = answers::refusal(0, ds.len(), lambda.len() == ds.len());
-    if no != 0 {
-        return Answer::Refused(no);
-    }
+    answers::check(0, ds.len(), lambda.len() == ds.len())?;
     affine_ds(ds, lambda);
-    Answer::Done
+    Ok(())
 }

@@ -2,11 +2,12 @@
 use mathlib.Core.Path.{◌≡◌}
 use mathlib.Core.List.{List}
 use lib.Ieee.{Float}
-use Rattle.answers.specs.declared.Answer.{Answer}
+use Rattle.std.specs.Prelude.{Result}
+use Rattle.answers.specs.declared.Refusal.{Refusal}
 use Rattle.answers.specs.Outcome.{tells, of_answer, Contents}
 use Rattle.answers.proofs.Unique.{one_answer}
 use Rattle.nn_offset.specs.Offset.{nn_ds_from_dz_offset}
 
-module _ {r r' : Answer} {e e' : Contents 1 0} where
+module _ {r r' : Result (Unit {0}) Refusal} {e e' : Contents 1 0} where
   nn_ds_from_dz_offset_lem : (out ds z : List Float) → tells (of_answer r) e ≡ nn_ds_from_dz_offset out ds z → tells (of_answer r') e' ≡ nn_ds_from_dz_offset out ds z → (r ≡ r') × (e ≡ e')
   nn_ds_from_dz_offset_lem out ds z = one_answer

@@ -1,13 +1,13 @@
 // The nonnegative cone (source document 001, nonnegativecone.rs): Δs_from_Δz_offset. The bare call, and behind it the kernel that it
 // calls once nothing is refused.
-#![tactic(auto)]
+#![tactic(auto, using(answers::proofs::Laws::outcomes, answers::proofs::Laws::fits))]
 
 ghost use Rattle.std.specs.Prelude.{◌≡◌, [], ◌∷◌, length};
 ghost use Rattle.answers.specs.Refusal.{Fit};
 ghost use Rattle.answers.specs.Outcome.{tells, of_answer, ◌⨾◌};
 ghost use Rattle.nn_offset.specs.Offset.{nonneg_offset, nn_ds_from_dz_offset};
 
-use answers::Answer;
+use answers::Refusal;
 
 pub fn ds_from_dz_offset(out: &mut [f64], ds: &[f64], z: &[f64])
     requires { Fit 0 (length out.old) (length ds.now ∷ length z.now ∷ []) }
@@ -17,17 +17,14 @@ pub fn ds_from_dz_offset(out: &mut [f64], ds: &[f64], z: &[f64])
 }
 
 // out = ds/z, entry by entry
-pub fn nn_ds_from_dz_offset(out: &mut [f64], ds: &[f64], z: &[f64]) -> Answer
+pub fn nn_ds_from_dz_offset(out: &mut [f64], ds: &[f64], z: &[f64]) -> Result<(), Refusal>
     ensures { tells (of_answer result) (out.new ⨾ tt) ≡ nn_ds_from_dz_offset out.old ds.now z.now }
 {
-    let no = answers::refusal(
+    answers::check(
         0,
         out.len(),
         (ds.len() == out.len()) & (z.len() == out.len()),
-    );
-    if no != 0 {
-        return Answer::Refused(no);
-    }
+    )?;
     ds_from_dz_offset(out, ds, z);
-    Answer::Done
+    Ok(())
 }

@@ -1,16 +1,17 @@
 // The nonnegative cone (source document 001, nonnegativecone.rs): step_length, and the step of one side. The bare calls, and behind
 // each the kernel that it calls once nothing is refused.
-#![tactic(auto)]
+#![tactic(auto, using(answers::proofs::Laws::outcomes, answers::proofs::Laws::fits, vecmath::proofs::Loops::loops), unfolding(crate::specs::Step::nonneg_step))]
 
 ghost use Rattle.std.specs.Prelude.{◌≡◌, [], ◌∷◌, length};
 ghost use Rattle.extrema.specs.Extrema.{least_of};
 ghost use Rattle.answers.specs.Refusal.{Fit};
-ghost use Rattle.answers.specs.Outcome.{lengths, tells, of_step, of_steps};
+ghost use Rattle.answers.specs.Outcome.{lengths, tells, of_number, of_steps};
 ghost use Rattle.nn_step.specs.Step.{shorter, nonneg_step, nonneg_steps, nn_step, nn_step_length};
 
-use answers::{Step, StepPair, Steps};
+use answers::{Refusal, StepPair};
 
 // The step that one entry x leaves along y. Most entries leave alpha, and a product tells that without a division, whatever the sign of y.
+#[tactic(auto, using(crate::proofs::Laws::stays, extrema::proofs::Laws::least_self))]
 fn shorter(alpha: f64, x: f64, y: f64) -> f64
     ensures { result ≡ shorter least_of x y alpha }
 {
@@ -26,23 +27,18 @@ pub fn step(x: &[f64], y: &[f64], limit: f64) -> f64
     ensures { result ≡ nonneg_step least_of x.now y.now limit }
 {
     let mut alpha = limit;
-    let mut i = 0;
-    while i < y.len() {
-        alpha = shorter(alpha, x[i], y[i]);
-        i += 1;
+    for (i, &yi) in y.iter().enumerate() {
+        alpha = shorter(alpha, x[i], yi);
     }
     alpha
 }
 
 // The step of the point x along the direction y, of at most limit.
-pub fn nn_step(x: &[f64], y: &[f64], limit: f64) -> Step
-    ensures { tells (of_step result) tt ≡ nn_step x.now y.now limit }
+pub fn nn_step(x: &[f64], y: &[f64], limit: f64) -> Result<f64, Refusal>
+    ensures { tells (of_number result) tt ≡ nn_step x.now y.now limit }
 {
-    let no = answers::step_refusal(0, x.len(), y.len() == x.len(), limit);
-    if no != 0 {
-        return Step::Refused(no);
-    }
-    Step::Length(step(x, y, limit))
+    answers::check_step(0, x.len(), y.len() == x.len(), limit)?;
+    Ok(step(x, y, limit))
 }
 
 pub fn step_length(dz: &[f64], ds: &[f64], z: &[f64], s: &[f64], limit: f64) -> StepPair
@@ -52,11 +48,9 @@ pub fn step_length(dz: &[f64], ds: &[f64], z: &[f64], s: &[f64], limit: f64) -> 
 {
     let mut alpha_z = limit;
     let mut alpha_s = limit;
-    let mut i = 0;
-    while i < dz.len() {
-        alpha_z = shorter(alpha_z, z[i], dz[i]);
+    for (i, &dzi) in dz.iter().enumerate() {
+        alpha_z = shorter(alpha_z, z[i], dzi);
         alpha_s = shorter(alpha_s, s[i], ds[i]);
-        i += 1;
     }
     StepPair {
         z: alpha_z,
@@ -65,18 +59,21 @@ pub fn step_length(dz: &[f64], ds: &[f64], z: &[f64], s: &[f64], limit: f64) -> 
 }
 
 // The two step lengths, z side and s side: of z along dz, and of s along ds.
-pub fn nn_step_length(dz: &[f64], ds: &[f64], z: &[f64], s: &[f64], limit: f64) -> Steps
+pub fn nn_step_length(
+    dz: &[f64],
+    ds: &[f64],
+    z: &[f64],
+    s: &[f64],
+    limit: f64,
+) -> Result<StepPair, Refusal>
     ensures { tells (of_steps result) tt
         ≡ nn_step_length dz.now ds.now z.now s.now limit }
 {
-    let no = answers::step_refusal(
+    answers::check_step(
         0,
         dz.len(),
         (ds.len() == dz.len()) & (z.len() == dz.len()) & (s.len() == dz.len()),
         limit,
-    );
-    if no != 0 {
-        return Steps::Refused(no);
-    }
-    Steps::Lengths(step_length(dz, ds, z, s, limit))
+    )?;
+    Ok(step_length(dz, ds, z, s, limit))
 }

@@ -2,18 +2,19 @@
 use mathlib.Core.Path.{◌≡◌}
 use mathlib.Core.List.{List}
 use lib.Ieee.{Float}
-use Rattle.answers.specs.declared.Answer.{Answer}
+use Rattle.std.specs.Prelude.{Result}
+use Rattle.answers.specs.declared.Refusal.{Refusal}
 use Rattle.answers.specs.declared.Margins.{Margins}
 use Rattle.answers.specs.Outcome.{Contents, tells, of_answer, of_margins}
 use Rattle.answers.proofs.Unique.{one_answer, one_margins}
 use Rattle.nn_units.specs.Units.{nn_scaled_unit_shift, nn_unit_initialization, nn_margins}
 
-module _ {r r' : Answer} where
+module _ {r r' : Result (Unit {0}) Refusal} where
   nn_scaled_unit_shift_lem : {e e' : Contents 1 0} (z : List Float) (α : Float) → tells (of_answer r) e ≡ nn_scaled_unit_shift z α → tells (of_answer r') e' ≡ nn_scaled_unit_shift z α → (r ≡ r') × (e ≡ e')
   nn_scaled_unit_shift_lem z α = one_answer
 
   nn_unit_initialization_lem : {e e' : Contents 2 0} (z s : List Float) → tells (of_answer r) e ≡ nn_unit_initialization z s → tells (of_answer r') e' ≡ nn_unit_initialization z s → (r ≡ r') × (e ≡ e')
   nn_unit_initialization_lem z s = one_answer
 
-nn_margins_lem : {r r' : Margins} (z : List Float) → tells (of_margins r) tt ≡ nn_margins z → tells (of_margins r') tt ≡ nn_margins z → r ≡ r'
+nn_margins_lem : {r r' : Result Margins Refusal} (z : List Float) → tells (of_margins r) tt ≡ nn_margins z → tells (of_margins r') tt ≡ nn_margins z → r ≡ r'
 nn_margins_lem z = one_margins

@@ -1,30 +1,30 @@
 // The nonnegative cone (source document 001, nonnegativecone.rs): margins, unit shift and unit initialisation. The bare calls, and behind
 // each the kernel that it calls once nothing is refused.
-#![tactic(auto)]
+#![tactic(auto, using(answers::proofs::Laws::outcomes))]
 
 ghost use Rattle.std.specs.Prelude.{◌≡◌, true, length};
-ghost use Rattle.answers.specs.Outcome.{gives, of_margins, tells, of_answer, ◌⨾◌};
+ghost use Rattle.answers.specs.Outcome.{margins_of, of_margins, tells, of_answer, ◌⨾◌};
 ghost use Rattle.nn_units.specs.Units.{nonneg_margins, nonneg_shift, nonneg_unit, nn_margins, nn_scaled_unit_shift, nn_unit_initialization};
 
-use answers::{Answer, Margins};
+use answers::{Margins, Refusal};
 
 // ---- margins
 
 pub fn margins(z: &[f64]) -> Margins
-    ensures { of_margins result ≡ gives (nonneg_margins z.now) }
+    ensures { margins_of result ≡ nonneg_margins z.now }
 {
     let found = bounds::bounds(z);
-    Margins::Are(found.least, found.sum)
+    Margins {
+        alpha: found.least,
+        beta: found.sum,
+    }
 }
 
-pub fn nn_margins(z: &[f64]) -> Margins
+pub fn nn_margins(z: &[f64]) -> Result<Margins, Refusal>
     ensures { tells (of_margins result) tt ≡ nn_margins z.now }
 {
-    let no = answers::refusal(0, z.len(), true);
-    if no != 0 {
-        return Margins::Refused(no);
-    }
-    margins(z)
+    answers::check(0, z.len(), true)?;
+    Ok(margins(z))
 }
 
 // ---- the unit
@@ -36,15 +36,12 @@ pub fn scaled_unit_shift(z: &mut [f64], alpha: f64)
 }
 
 // z = z + alpha·(1, 1, ..)
-pub fn nn_scaled_unit_shift(z: &mut [f64], alpha: f64) -> Answer
+pub fn nn_scaled_unit_shift(z: &mut [f64], alpha: f64) -> Result<(), Refusal>
     ensures { tells (of_answer result) (z.new ⨾ tt) ≡ nn_scaled_unit_shift z.old alpha }
 {
-    let no = answers::refusal(0, z.len(), true);
-    if no != 0 {
-        return Answer::Refused(no);
-    }
+    answers::check(0, z.len(), true)?;
     scaled_unit_shift(z, alpha);
-    Answer::Done
+    Ok(())
 }
 
 pub fn unit_initialization(z: &mut [f64], s: &mut [f64])
@@ -56,13 +53,10 @@ pub fn unit_initialization(z: &mut [f64], s: &mut [f64])
 }
 
 // z = s = (1, 1, ..)
-pub fn nn_unit_initialization(z: &mut [f64], s: &mut [f64]) -> Answer
+pub fn nn_unit_initialization(z: &mut [f64], s: &mut [f64]) -> Result<(), Refusal>
     ensures { tells (of_answer result) (z.new ⨾ s.new ⨾ tt) ≡ nn_unit_initialization z.old s.old }
 {
-    let no = answers::refusal(0, z.len(), s.len() == z.len());
-    if no != 0 {
-        return Answer::Refused(no);
-    }
+    answers::check(0, z.len(), s.len() == z.len())?;
     unit_initialization(z, s);
-    Answer::Done
+    Ok(())
 }

@@ -12,7 +12,7 @@ use Rattle.extrema.specs.Extrema.{least_of}
 use Rattle.vecmath.specs.Double.{𝟎, ∞}
 use Rattle.vecmath.specs.Vector.{each}
 use Rattle.answers.specs.declared.StepPair.{StepPair}
-use Rattle.answers.specs.declared.Steps.TheVariants.{Lengths}
+use Rattle.std.specs.Prelude.{Ok}
 use Rattle.answers.specs.Refusal.{bad_limit}
 use Rattle.answers.specs.Outcome.{lengths, gives, call_of, of_steps, tells}
 use Rattle.answers.proofs.Laws.{clear_both}
@@ -132,7 +132,7 @@ unfolding call_of
 pair_is zero a b c d old new e = (refl, cc, cc)
 pair_is (suc n) a b c d old new e = let z : ◌≡◌ {A = ℕ} 0 1 = cc in absurd (omega arith)
 
-pub list_step : (list : List Cone) (dz ds z s : List Float) (αmax : Float) (p : StepPair) → tells (of_steps (Lengths p)) tt ≡ list_step_length list dz ds z s αmax
+pub list_step : (list : List Cone) (dz ds z s : List Float) (αmax : Float) (p : StepPair) → tells (of_steps (Ok p)) tt ≡ list_step_length list dz ds z s αmax
     → (ks : List ℕ) → Perm ks (cone_indices list) → (eq (visited_step list z dz ks αmax) p.z ≡ true) × (eq (visited_step list s ds ks αmax) p.s ≡ true)
 list_step list dz ds z s αmax p e ks perm =
     let t = pair_is _ p.z p.s _ _ _ _ (ap (λ o. o.ruling) e) in
@@ -141,7 +141,7 @@ list_step list dz ds z s αmax p e ks perm =
 
 -- ---- and of the contract of one cone's step: where it answers, its pair is the cone's own step of each side, so that handing on can be done by calls
 
-pub cone_step : (list : List Cone) (k : ℕ) (dz ds z s : List Float) (αmax : Float) (p : StepPair) → tells (of_steps (Lengths p)) tt ≡ comes_at (place_of list k) (step_length_deed αmax) dz ds z s
+pub cone_step : (list : List Cone) (k : ℕ) (dz ds z s : List Float) (αmax : Float) (p : StepPair) → tells (of_steps (Ok p)) tt ≡ comes_at (place_of list k) (step_length_deed αmax) dz ds z s
     → (p.z ≡ step_of_cone least_of list z dz k αmax) × (p.s ≡ step_of_cone least_of list s ds k αmax)
 cone_step list k dz ds z s αmax p e =
     let t = pair_is _ p.z p.s _ _ _ _ (ap (λ o. o.ruling) e) in

@@ -1,43 +1,50 @@
 // The turns of the walk that finds a cone's place (document 01, "The list and its buffers" and "Refusal numbers"): before the first record, over
 // one record, which is checked, and behind the last. Ported from nothing: the crate has no list of its own.
-#![tactic(auto)]
+#![tactic(auto, using(crate::proofs::Records::turns, answers::proofs::Laws::ranks, std::proofs::lemmas::Bool::Decides::nat_tests), unfolding(crate::specs::Walk::place_opening, crate::specs::Walk::place_further, crate::specs::Walk::place_closing, conelist::specs::Layout::bad_record))]
 
 ghost use Rattle.std.specs.Prelude.{◌≡◌};
+ghost use Rattle.answers.specs.Refusal.{number_of, number_in};
 ghost use Rattle.conelist.specs.Layout.{bad_record, alone};
 ghost use Rattle.place_turns.specs.Walk.{place_opening, place_further, place_closing, Going};
 
+use answers::Refusal;
 use conelist::{Cone, Kind, Place};
 
+// No cone is met yet, and nothing is refused.
+const NOWHERE: Place = Place {
+    no: 0,
+    index: 0,
+    start: 0,
+    kind: Kind::Nonnegative(0),
+    block: 0,
+    entries: 0,
+    count: 0,
+    blocks: 0,
+};
+
 // A refusal: its number alone.
-fn alone(no: u8) -> Place
-    ensures { result ≡ alone no }
+fn alone(refusal: Refusal) -> Place
+    ensures { result ≡ alone (number_of refusal) }
 {
     Place {
-        no,
-        index: 0,
-        start: 0,
-        kind: Kind::Nonnegative(0),
-        block: 0,
-        entries: 0,
-        count: 0,
-        blocks: 0,
+        no: u8::from(refusal),
+        ..NOWHERE
     }
 }
 
 // The refusals of a record that stands behind `total` entries.
-pub fn record_refusal(total: usize, c: Cone) -> u8
-    ensures { result ≡ bad_record total c }
+pub fn check_record(total: usize, c: Cone) -> Result<(), Refusal>
+    ensures { number_in result ≡ bad_record total c }
 {
-    let kind = c.kind;
-    let n = conelist::dim(kind);
-    let bad = answers::dimension_refusal(conelist::least_dim(kind), n);
-    if bad != 0 {
-        return bad;
-    }
+    let n = c.kind.dim();
+    answers::check_dimension(c.kind.least_dim(), n)?;
     if c.start != total {
-        return 3;
+        return Err(Refusal::Start);
     }
-    if 65536 - n < total { 2 } else { 0 }
+    if 65536 - n < total {
+        return Err(Refusal::Size);
+    }
+    Ok(())
 }
 
 // The walk for cone k of a list of so many cones, before its first record: none is counted yet.
@@ -45,17 +52,11 @@ pub fn place_opening(cones: usize, k: usize) -> Place
     ensures { result ≡ place_opening cones k }
 {
     if 256 < cones {
-        return alone(2);
+        return alone(Refusal::Size);
     }
     Place {
-        no: 0,
         index: k,
-        start: 0,
-        kind: Kind::Nonnegative(0),
-        block: 0,
-        entries: 0,
-        count: 0,
-        blocks: 0,
+        ..NOWHERE
     }
 }
 
@@ -67,52 +68,34 @@ pub fn place_further(p: Place, c: Cone) -> Place
     if p.no != 0 {
         return p;
     }
-    let no = record_refusal(p.entries, c);
-    if no != 0 {
-        return alone(no);
+    if let Err(refusal) = check_record(p.entries, c) {
+        return alone(refusal);
     }
     let kind = c.kind;
-    let entries = p.entries + conelist::dim(kind);
-    let count = p.count + 1;
-    let blocks = p.blocks + conelist::block_dim(kind);
+    let seen = Place {
+        entries: p.entries + kind.dim(),
+        count: p.count + 1,
+        blocks: p.blocks + kind.block_dim(),
+        ..p
+    };
     if p.count == p.index {
         return Place {
-            no: 0,
-            index: p.index,
             start: p.entries,
             kind,
             block: p.blocks,
-            entries,
-            count,
-            blocks,
+            ..seen
         };
     }
-    let before = p.kind;
-    Place {
-        no: 0,
-        index: p.index,
-        start: p.start,
-        kind: before,
-        block: p.block,
-        entries,
-        count,
-        blocks,
-    }
+    seen
 }
 
 // The walk behind its last record: the cone is in the list, or it is not.
 pub fn place_closing(p: Place) -> Place
     ensures { result ≡ place_closing p }
 {
-    if p.no != 0 {
-        return p;
+    if (p.no != 0) | (p.index < p.count) {
+        p
+    } else {
+        alone(Refusal::Cone)
     }
-    if p.index < p.count { p } else { alone(4) }
-}
-
-// The walk for the first cone.
-pub fn first_opening(cones: usize) -> Place
-    ensures { result ≡ place_opening cones 0 }
-{
-    place_opening(cones, 0)
 }

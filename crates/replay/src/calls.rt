@@ -1,109 +1,69 @@
 // Each call once, with its parameters in order, told: the answer, then what the slices hold that it writes. Of our own; nothing is ported.
 //
-// What a call reads is lent of the numbers of all the words; each slice that it writes, of a copy of its own.
-use crate::slices;
-use answers::{Answer, Steps};
-use conelist::Place;
+// What a call reads is lent of the numbers of all the words; each slice that it writes, of a copy of its own. A call has the file's number
+// (docs/CASES.md), and a match the calls of one form; a table of them would need one type of all forms.
+use crate::case::Case;
+use answers::{Refusal, StepPair};
 use std::io;
 use std::io::Write;
 
-// A case but for its slices: the call's number, the call's numbers, the cone that it names, how many slices there are, how many of them the
-// call writes, and whether the last one is the marks.
-#[derive(Clone, Copy)]
-pub struct Case {
-    pub call: u64,
-    pub a: f64,
-    pub b: f64,
-    pub place: Place,
-    pub slices: usize,
-    pub written: usize,
-    pub marked: bool,
-}
-
 // ---- a call that writes nothing: its answer
 
-fn number(c: Case) -> f64 {
-    let call = c.call;
-    match call {
+fn number(c: &Case) -> f64 {
+    match c.call {
         0 => root::sqrt(c.a),
         1 => extrema::least(c.a, c.b),
         _ => extrema::greatest(c.a, c.b),
     }
 }
 
-fn reads_one<W: Write>(out: &mut W, c: Case, z: &[f64]) -> io::Result<()> {
-    let call = c.call;
-    match call {
-        0x100 => case_answers::margins(out, soc_units::soc_margins(z)),
-        0x200 => case_answers::margins(out, nn_units::nn_margins(z)),
-        0x300 => case_answers::margins(out, list_margins::margins_at(c.place, z)),
-        0x111 => case_answers::stands(out, standing::soc_standing(z)),
-        0x211 => case_answers::stands(out, standing::nn_standing(z)),
-        0x311 => case_answers::stands(out, list_standing::standing_at(c.place, z)),
-        0x113 => case_answers::residual(out, soc_residual::soc_residual(z)),
-        _ => case_answers::residual(out, soc_residual::sqrt_soc_residual(z)),
+fn reads_one<W: Write>(out: &mut W, c: &Case, z: &[f64]) -> io::Result<()> {
+    match c.call {
+        0x100 => case_answers::answer(out, soc_units::soc_margins(z)),
+        0x200 => case_answers::answer(out, nn_units::nn_margins(z)),
+        0x300 => case_answers::answer(out, list_margins::margins_at(c.place, z)),
+        0x111 => case_answers::answer(out, standing::soc_standing(z)),
+        0x211 => case_answers::answer(out, standing::nn_standing(z)),
+        0x311 => case_answers::answer(out, list_standing::standing_at(c.place, z)),
+        0x113 => case_answers::answer(out, soc_residual::soc_residual(z)),
+        _ => case_answers::answer(out, soc_residual::sqrt_soc_residual(z)),
     }
 }
 
 // The second slice is a direction, or eta; the second-order cone is lent eta as a number.
-fn reads_two<W: Write>(out: &mut W, c: Case, x: &[f64], y: &[f64], eta: f64) -> io::Result<()> {
-    let call = c.call;
-    match call {
+fn reads_two<W: Write>(out: &mut W, c: &Case, x: &[f64], y: &[f64], eta: f64) -> io::Result<()> {
+    match c.call {
         0x106 => case_answers::square(out, soc_square::soc_square_hs(x, &eta)),
-        0x112 => case_answers::step(out, soc_step::soc_step(x, y, c.a)),
-        0x212 => case_answers::step(out, nn_step::nn_step(x, y, c.a)),
-        _ => case_answers::residual(out, soc_residual::soc_residual_shifted(x, y, c.a)),
+        0x112 => case_answers::answer(out, soc_step::soc_step(x, y, c.a)),
+        0x212 => case_answers::answer(out, nn_step::nn_step(x, y, c.a)),
+        _ => case_answers::answer(out, soc_residual::soc_residual_shifted(x, y, c.a)),
     }
 }
 
-fn steps(c: Case, row: &[[usize; 3]], dz: &[f64], ds: &[f64], z: &[f64], s: &[f64]) -> Steps {
-    let call = c.call;
-    match call {
+fn steps(c: &Case, dz: &[f64], ds: &[f64], z: &[f64], s: &[f64]) -> Result<StepPair, Refusal> {
+    match c.call {
         0x10b => soc_step::soc_step_length(dz, ds, z, s, c.a),
         0x20b => nn_step::nn_step_length(dz, ds, z, s, c.a),
-        0x312 => records_step::list_step_length(row, dz, ds, z, s, c.a),
+        0x312 => whole_step::list_step_length(c.row, dz, ds, z, s, c.a),
         _ => list_step::step_length_at(c.place, dz, ds, z, s, c.a),
     }
 }
 
-fn reads_four<W: Write>(
-    out: &mut W,
-    c: Case,
-    row: &[[usize; 3]],
-    words: &[u64],
-    held: &[f64],
-) -> io::Result<()> {
-    case_answers::steps(
-        out,
-        steps(
-            c,
-            row,
-            slices::part(words, held, 1),
-            slices::part(words, held, 2),
-            slices::part(words, held, 3),
-            slices::part(words, held, 4),
-        ),
-    )
+fn reads_four<W: Write>(out: &mut W, c: &Case) -> io::Result<()> {
+    case_answers::answer(out, steps(c, c.lent(1), c.lent(2), c.lent(3), c.lent(4)))
 }
 
-fn list_square<W: Write>(out: &mut W, c: Case, words: &[u64], held: &[f64]) -> io::Result<()> {
-    let bytes = slices::all_marks(words);
+fn list_square<W: Write>(out: &mut W, c: &Case) -> io::Result<()> {
     case_answers::square(
         out,
-        list_square::square_hs_at(
-            c.place,
-            slices::part(words, held, 1),
-            slices::part(words, held, 2),
-            slices::marks(words, &bytes, 3),
-        ),
+        list_square::square_hs_at(c.place, c.lent(1), c.lent(2), c.part(&c.marks, 3)),
     )
 }
 
 // ---- a call that writes one slice: first by how many it reads
 
-fn from_none(c: Case, z: &mut [f64]) -> Answer {
-    let call = c.call;
-    match call {
+fn from_none(c: &Case, z: &mut [f64]) -> Result<(), Refusal> {
+    match c.call {
         0x101 => soc_units::soc_scaled_unit_shift(z, c.a),
         0x201 => nn_units::nn_scaled_unit_shift(z, c.a),
         0x203 => nn_identity::nn_set_identity_scaling(z),
@@ -111,18 +71,16 @@ fn from_none(c: Case, z: &mut [f64]) -> Answer {
     }
 }
 
-fn from_one(c: Case, x: &mut [f64], y: &[f64]) -> Answer {
-    let call = c.call;
-    match call {
+fn from_one(c: &Case, x: &mut [f64], y: &[f64]) -> Result<(), Refusal> {
+    match c.call {
         0x108 => soc_jordan::soc_affine_ds(x, y),
         0x205 => nn_blocks::nn_get_hs(x, y),
         _ => nn_jordan::nn_affine_ds(x, y),
     }
 }
 
-fn nonnegative_from_two(c: Case, x: &mut [f64], y: &[f64], z: &[f64]) -> Answer {
-    let call = c.call;
-    match call {
+fn nonnegative_from_two(c: &Case, x: &mut [f64], y: &[f64], z: &[f64]) -> Result<(), Refusal> {
+    match c.call {
         0x207 => nn_mul_hs::nn_mul_hs(x, y, z),
         0x20a => nn_offset::nn_ds_from_dz_offset(x, y, z),
         0x20c => nn_products::nn_mul_w(x, y, c.a, c.b, z),
@@ -133,9 +91,8 @@ fn nonnegative_from_two(c: Case, x: &mut [f64], y: &[f64], z: &[f64]) -> Answer 
     }
 }
 
-fn from_two(c: Case, x: &mut [f64], y: &[f64], z: &[f64]) -> Answer {
-    let call = c.call;
-    match call {
+fn from_two(c: &Case, x: &mut [f64], y: &[f64], z: &[f64]) -> Result<(), Refusal> {
+    match c.call {
         0x10e => soc_jordan::soc_circ_op(x, y, z),
         0x10f => soc_inverse::soc_inv_circ_op(x, y, z),
         0x110 => soc_inverse::soc_lambda_inv_circ_op(x, y, z),
@@ -147,15 +104,14 @@ fn from_two(c: Case, x: &mut [f64], y: &[f64], z: &[f64]) -> Answer {
 
 // The second-order cone is lent numbers: eta, or eta and d.
 fn second_order_from_three(
-    c: Case,
+    c: &Case,
     y: &mut [f64],
     x: &[f64],
     w: &[f64],
     eta: f64,
     last: f64,
-) -> Answer {
-    let call = c.call;
-    match call {
+) -> Result<(), Refusal> {
+    match c.call {
         0x105 => soc_blocks::soc_get_hs(y, x, &eta, &last),
         0x107 => soc_mul_hs::soc_mul_hs(y, x, w, &last),
         0x10c => soc_products::soc_mul_w(y, x, c.a, c.b, w, &last),
@@ -163,56 +119,51 @@ fn second_order_from_three(
     }
 }
 
-fn from_three(c: Case, words: &[u64], held: &[f64], y: &mut [f64], x: &[f64], w: &[f64]) -> Answer {
-    let eta = slices::number(words, held, 3);
-    second_order_from_three(c, y, x, w, eta, slices::number(words, held, 4))
+fn from_three(c: &Case, y: &mut [f64], x: &[f64], w: &[f64]) -> Result<(), Refusal> {
+    let eta = c.number(3);
+    second_order_from_three(c, y, x, w, eta, c.number(4))
 }
 
-fn one(c: Case, words: &[u64], held: &[f64], x: &mut [f64]) -> Answer {
-    let y = slices::part(words, held, 2);
-    let z = slices::part(words, held, 3);
-    let slices = c.slices;
-    match slices {
+fn one(c: &Case, x: &mut [f64]) -> Result<(), Refusal> {
+    let y = c.lent(2);
+    let z = c.lent(3);
+    match c.shape.slices {
         1 => from_none(c, x),
         2 => from_one(c, x, y),
         3 => from_two(c, x, y, z),
-        _ => from_three(c, words, held, x, y, z),
+        _ => from_three(c, x, y, z),
     }
 }
 
-fn writes_one<W: Write>(out: &mut W, c: Case, words: &[u64], held: &[f64]) -> io::Result<()> {
-    let mut own = slices::numbers(words);
-    case_answers::answer(
-        out,
-        one(c, words, held, slices::part_mut(words, &mut own, 1)),
-    )?;
-    slices::told(out, words, own, 1)
+fn writes_one<W: Write>(out: &mut W, c: &Case) -> io::Result<()> {
+    let mut own = c.numbers;
+    case_answers::answer(out, one(c, c.part_mut(&mut own, 1)))?;
+    c.tell(out, &own, 1)
 }
 
-fn second_order_offset<W: Write>(out: &mut W, words: &[u64], held: &[f64]) -> io::Result<()> {
-    let mut own1 = slices::numbers(words);
-    let eta = slices::number(words, held, 6);
+fn second_order_offset<W: Write>(out: &mut W, c: &Case) -> io::Result<()> {
+    let mut own1 = c.numbers;
+    let eta = c.number(6);
     case_answers::answer(
         out,
         soc_offset::soc_ds_from_dz_offset(
-            slices::part_mut(words, &mut own1, 1),
-            slices::part(words, held, 2),
-            slices::part(words, held, 3),
-            slices::part(words, held, 4),
-            slices::part(words, held, 5),
+            c.part_mut(&mut own1, 1),
+            c.lent(2),
+            c.lent(3),
+            c.lent(4),
+            c.lent(5),
             &eta,
         ),
     )?;
-    slices::told(out, words, own1, 1)
+    c.tell(out, &own1, 1)
 }
 
 // One cone of a list, whose mark is read.
-fn list_one(c: Case, words: &[u64], held: &[f64], marks: &[u8], x: &mut [f64]) -> Answer {
-    let y = slices::part(words, held, 2);
-    let z = slices::part(words, held, 3);
-    let w = slices::part(words, held, 4);
-    let call = c.call;
-    match call {
+fn list_one(c: &Case, marks: &[u8], x: &mut [f64]) -> Result<(), Refusal> {
+    let y = c.lent(2);
+    let z = c.lent(3);
+    let w = c.lent(4);
+    match c.call {
         0x305 => list_blocks::get_hs_at(c.place, x, y, z, w, marks),
         0x307 => list_mul_hs::mul_hs_at(c.place, x, y, z, w, marks),
         0x308 => list_jordan::affine_ds_at(c.place, x, y, marks),
@@ -222,8 +173,8 @@ fn list_one(c: Case, words: &[u64], held: &[f64], marks: &[u8], x: &mut [f64]) -
             y,
             z,
             w,
-            slices::part(words, held, 5),
-            slices::part(words, held, 6),
+            c.lent(5),
+            c.lent(6),
             marks,
         ),
         0x30c => list_products::mul_w_at(c.place, x, y, c.a, c.b, z, w, marks),
@@ -232,225 +183,205 @@ fn list_one(c: Case, words: &[u64], held: &[f64], marks: &[u8], x: &mut [f64]) -
     }
 }
 
-fn list_writes_one<W: Write>(out: &mut W, c: Case, words: &[u64], held: &[f64]) -> io::Result<()> {
-    let mut own1 = slices::numbers(words);
-    let bytes = slices::all_marks(words);
+fn list_writes_one<W: Write>(out: &mut W, c: &Case) -> io::Result<()> {
+    let mut own1 = c.numbers;
     case_answers::answer(
         out,
         list_one(
             c,
-            words,
-            held,
-            slices::marks(words, &bytes, c.slices),
-            slices::part_mut(words, &mut own1, 1),
+            c.part(&c.marks, c.shape.slices),
+            c.part_mut(&mut own1, 1),
         ),
     )?;
-    slices::told(out, words, own1, 1)
+    c.tell(out, &own1, 1)
 }
 
 // ---- a call that writes several
 
-fn units(c: Case, z: &mut [f64], s: &mut [f64]) -> Answer {
-    let call = c.call;
-    match call {
+fn units(c: &Case, z: &mut [f64], s: &mut [f64]) -> Result<(), Refusal> {
+    match c.call {
         0x102 => soc_units::soc_unit_initialization(z, s),
         0x202 => nn_units::nn_unit_initialization(z, s),
         _ => list_units::unit_initialization_at(c.place, z, s),
     }
 }
 
-fn writes_two<W: Write>(out: &mut W, c: Case, words: &[u64]) -> io::Result<()> {
-    let mut own1 = slices::numbers(words);
+fn writes_two<W: Write>(out: &mut W, c: &Case) -> io::Result<()> {
+    let mut own1 = c.numbers;
     let mut own2 = own1;
     case_answers::answer(
         out,
-        units(
-            c,
-            slices::part_mut(words, &mut own1, 1),
-            slices::part_mut(words, &mut own2, 2),
-        ),
+        units(c, c.part_mut(&mut own1, 1), c.part_mut(&mut own2, 2)),
     )?;
-    slices::told(out, words, own1, 1)?;
-    slices::told(out, words, own2, 2)
+    c.tell(out, &own1, 1)?;
+    c.tell(out, &own2, 2)
 }
 
-fn second_order_combined<W: Write>(
-    out: &mut W,
-    c: Case,
-    words: &[u64],
-    held: &[f64],
-) -> io::Result<()> {
-    let mut own1 = slices::numbers(words);
+fn second_order_combined<W: Write>(out: &mut W, c: &Case) -> io::Result<()> {
+    let mut own1 = c.numbers;
     let mut own2 = own1;
     let mut own3 = own1;
-    let eta = slices::number(words, held, 5);
+    let eta = c.number(5);
     case_answers::answer(
         out,
         soc_combined::soc_combined_ds_shift(
-            slices::part_mut(words, &mut own1, 1),
-            slices::part_mut(words, &mut own2, 2),
-            slices::part_mut(words, &mut own3, 3),
+            c.part_mut(&mut own1, 1),
+            c.part_mut(&mut own2, 2),
+            c.part_mut(&mut own3, 3),
             c.a,
-            slices::part(words, held, 4),
+            c.lent(4),
             &eta,
         ),
     )?;
-    slices::told(out, words, own1, 1)?;
-    slices::told(out, words, own2, 2)?;
-    slices::told(out, words, own3, 3)
+    c.tell(out, &own1, 1)?;
+    c.tell(out, &own2, 2)?;
+    c.tell(out, &own3, 3)
 }
 
-fn nonnegative_combined<W: Write>(
-    out: &mut W,
-    c: Case,
-    words: &[u64],
-    held: &[f64],
-) -> io::Result<()> {
-    let mut own1 = slices::numbers(words);
+fn nonnegative_combined<W: Write>(out: &mut W, c: &Case) -> io::Result<()> {
+    let mut own1 = c.numbers;
     let mut own2 = own1;
     let mut own3 = own1;
     case_answers::answer(
         out,
         nn_combined::nn_combined_ds_shift(
-            slices::part_mut(words, &mut own1, 1),
-            slices::part_mut(words, &mut own2, 2),
-            slices::part_mut(words, &mut own3, 3),
+            c.part_mut(&mut own1, 1),
+            c.part_mut(&mut own2, 2),
+            c.part_mut(&mut own3, 3),
             c.a,
-            slices::part(words, held, 4),
+            c.lent(4),
         ),
     )?;
-    slices::told(out, words, own1, 1)?;
-    slices::told(out, words, own2, 2)?;
-    slices::told(out, words, own3, 3)
+    c.tell(out, &own1, 1)?;
+    c.tell(out, &own2, 2)?;
+    c.tell(out, &own3, 3)
 }
 
-fn list_combined<W: Write>(out: &mut W, c: Case, words: &[u64], held: &[f64]) -> io::Result<()> {
-    let mut own1 = slices::numbers(words);
+fn list_combined<W: Write>(out: &mut W, c: &Case) -> io::Result<()> {
+    let mut own1 = c.numbers;
     let mut own2 = own1;
     let mut own3 = own1;
-    let bytes = slices::all_marks(words);
     case_answers::answer(
         out,
         list_shifts::combined_ds_shift_at(
             c.place,
-            slices::part_mut(words, &mut own1, 1),
-            slices::part_mut(words, &mut own2, 2),
-            slices::part_mut(words, &mut own3, 3),
+            c.part_mut(&mut own1, 1),
+            c.part_mut(&mut own2, 2),
+            c.part_mut(&mut own3, 3),
             c.a,
-            slices::part(words, held, 4),
-            slices::part(words, held, 5),
-            slices::marks(words, &bytes, 6),
+            c.lent(4),
+            c.lent(5),
+            c.part(&c.marks, 6),
         ),
     )?;
-    slices::told(out, words, own1, 1)?;
-    slices::told(out, words, own2, 2)?;
-    slices::told(out, words, own3, 3)
+    c.tell(out, &own1, 1)?;
+    c.tell(out, &own2, 2)?;
+    c.tell(out, &own3, 3)
 }
 
-fn second_order_identity<W: Write>(out: &mut W, words: &[u64], held: &[f64]) -> io::Result<()> {
-    let mut own1 = slices::numbers(words);
+fn second_order_identity<W: Write>(out: &mut W, c: &Case) -> io::Result<()> {
+    let mut own1 = c.numbers;
     let mut own2 = own1;
     let mut own3 = own1;
-    let mut eta = slices::number(words, held, 4);
-    let mut d = slices::number(words, held, 5);
+    let mut eta = c.number(4);
+    let mut d = c.number(5);
     case_answers::answer(
         out,
         soc_identity::soc_set_identity_scaling(
-            slices::part_mut(words, &mut own1, 1),
-            slices::part_mut(words, &mut own2, 2),
-            slices::part_mut(words, &mut own3, 3),
+            c.part_mut(&mut own1, 1),
+            c.part_mut(&mut own2, 2),
+            c.part_mut(&mut own3, 3),
             &mut eta,
             &mut d,
         ),
     )?;
-    slices::told(out, words, own1, 1)?;
-    slices::told(out, words, own2, 2)?;
-    slices::told(out, words, own3, 3)?;
-    case_answers::single(out, eta)?;
-    case_answers::single(out, d)
+    c.tell(out, &own1, 1)?;
+    c.tell(out, &own2, 2)?;
+    c.tell(out, &own3, 3)?;
+    case_answers::contents(out, &[eta])?;
+    case_answers::contents(out, &[d])
 }
 
-fn list_identity<W: Write>(out: &mut W, c: Case, words: &[u64]) -> io::Result<()> {
-    let mut own1 = slices::numbers(words);
+fn list_identity<W: Write>(out: &mut W, c: &Case) -> io::Result<()> {
+    let mut own1 = c.numbers;
     let mut own2 = own1;
     let mut own3 = own1;
     let mut own4 = own1;
     let mut own5 = own1;
-    let mut own6 = slices::all_marks(words);
+    let mut own6 = c.marks;
     case_answers::answer(
         out,
         list_identity::set_identity_scaling_at(
             c.place,
-            slices::part_mut(words, &mut own1, 1),
-            slices::part_mut(words, &mut own2, 2),
-            slices::part_mut(words, &mut own3, 3),
-            slices::part_mut(words, &mut own4, 4),
-            slices::part_mut(words, &mut own5, 5),
-            slices::marks_mut(words, &mut own6, 6),
+            c.part_mut(&mut own1, 1),
+            c.part_mut(&mut own2, 2),
+            c.part_mut(&mut own3, 3),
+            c.part_mut(&mut own4, 4),
+            c.part_mut(&mut own5, 5),
+            c.part_mut(&mut own6, 6),
         ),
     )?;
-    slices::told(out, words, own1, 1)?;
-    slices::told(out, words, own2, 2)?;
-    slices::told(out, words, own3, 3)?;
-    slices::told(out, words, own4, 4)?;
-    slices::told(out, words, own5, 5)?;
-    slices::told_marks(out, words, own6, 6)
+    c.tell(out, &own1, 1)?;
+    c.tell(out, &own2, 2)?;
+    c.tell(out, &own3, 3)?;
+    c.tell(out, &own4, 4)?;
+    c.tell(out, &own5, 5)?;
+    c.tell(out, &own6, 6)
 }
 
 // An update of a scaling reads two slices first.
-fn second_order_scaling<W: Write>(out: &mut W, words: &[u64], held: &[f64]) -> io::Result<()> {
-    let mut own3 = slices::numbers(words);
+fn second_order_scaling<W: Write>(out: &mut W, c: &Case) -> io::Result<()> {
+    let mut own3 = c.numbers;
     let mut own4 = own3;
     let mut own5 = own3;
     let mut own6 = own3;
-    let mut eta = slices::number(words, held, 7);
-    let mut d = slices::number(words, held, 8);
-    case_answers::scaling(
+    let mut eta = c.number(7);
+    let mut d = c.number(8);
+    case_answers::answer(
         out,
         soc_scaling::soc_update_scaling(
-            slices::part(words, held, 1),
-            slices::part(words, held, 2),
-            slices::part_mut(words, &mut own3, 3),
-            slices::part_mut(words, &mut own4, 4),
-            slices::part_mut(words, &mut own5, 5),
-            slices::part_mut(words, &mut own6, 6),
+            c.lent(1),
+            c.lent(2),
+            c.part_mut(&mut own3, 3),
+            c.part_mut(&mut own4, 4),
+            c.part_mut(&mut own5, 5),
+            c.part_mut(&mut own6, 6),
             &mut eta,
             &mut d,
         ),
     )?;
-    slices::tell(out, words, held, 1)?;
-    slices::tell(out, words, held, 2)?;
-    slices::told(out, words, own3, 3)?;
-    slices::told(out, words, own4, 4)?;
-    slices::told(out, words, own5, 5)?;
-    slices::told(out, words, own6, 6)?;
-    case_answers::single(out, eta)?;
-    case_answers::single(out, d)
+    c.tell(out, &c.numbers, 1)?;
+    c.tell(out, &c.numbers, 2)?;
+    c.tell(out, &own3, 3)?;
+    c.tell(out, &own4, 4)?;
+    c.tell(out, &own5, 5)?;
+    c.tell(out, &own6, 6)?;
+    case_answers::contents(out, &[eta])?;
+    case_answers::contents(out, &[d])
 }
 
-fn nonnegative_scaling<W: Write>(out: &mut W, words: &[u64], held: &[f64]) -> io::Result<()> {
-    let mut own3 = slices::numbers(words);
+fn nonnegative_scaling<W: Write>(out: &mut W, c: &Case) -> io::Result<()> {
+    let mut own3 = c.numbers;
     let mut own4 = own3;
-    case_answers::scaling(
+    case_answers::answer(
         out,
         nn_scaling::nn_update_scaling(
-            slices::part(words, held, 1),
-            slices::part(words, held, 2),
-            slices::part_mut(words, &mut own3, 3),
-            slices::part_mut(words, &mut own4, 4),
+            c.lent(1),
+            c.lent(2),
+            c.part_mut(&mut own3, 3),
+            c.part_mut(&mut own4, 4),
         ),
     )?;
-    slices::tell(out, words, held, 1)?;
-    slices::tell(out, words, held, 2)?;
-    slices::told(out, words, own3, 3)?;
-    slices::told(out, words, own4, 4)
+    c.tell(out, &c.numbers, 1)?;
+    c.tell(out, &c.numbers, 2)?;
+    c.tell(out, &own3, 3)?;
+    c.tell(out, &own4, 4)
 }
 
 // Of one cone of a list, or of the whole list.
 fn scaled<W: Write>(
     out: &mut W,
-    c: Case,
-    row: &[[usize; 3]],
+    c: &Case,
     s: &[f64],
     z: &[f64],
     w: &mut [f64],
@@ -462,159 +393,117 @@ fn scaled<W: Write>(
     marks: &mut [u8],
 ) -> io::Result<()> {
     if c.call == 0x313 {
-        case_answers::scalings(
+        case_answers::answer(
             out,
-            records_scaling::list_update_scaling(row, s, z, w, lambda, u, v, eta, d, marks),
+            whole_scaling::list_update_scaling(c.row, s, z, w, lambda, u, v, eta, d, marks),
         )
     } else {
-        case_answers::scaling(
+        case_answers::answer(
             out,
             list_scaling::update_scaling_at(c.place, s, z, w, lambda, u, v, eta, d, marks),
         )
     }
 }
 
-fn list_scaling<W: Write>(
-    out: &mut W,
-    c: Case,
-    row: &[[usize; 3]],
-    words: &[u64],
-    held: &[f64],
-) -> io::Result<()> {
-    let mut own3 = slices::numbers(words);
+fn list_scaling<W: Write>(out: &mut W, c: &Case) -> io::Result<()> {
+    let mut own3 = c.numbers;
     let mut own4 = own3;
     let mut own5 = own3;
     let mut own6 = own3;
     let mut own7 = own3;
     let mut own8 = own3;
-    let mut own9 = slices::all_marks(words);
+    let mut own9 = c.marks;
     scaled(
         out,
         c,
-        row,
-        slices::part(words, held, 1),
-        slices::part(words, held, 2),
-        slices::part_mut(words, &mut own3, 3),
-        slices::part_mut(words, &mut own4, 4),
-        slices::part_mut(words, &mut own5, 5),
-        slices::part_mut(words, &mut own6, 6),
-        slices::part_mut(words, &mut own7, 7),
-        slices::part_mut(words, &mut own8, 8),
-        slices::marks_mut(words, &mut own9, 9),
+        c.lent(1),
+        c.lent(2),
+        c.part_mut(&mut own3, 3),
+        c.part_mut(&mut own4, 4),
+        c.part_mut(&mut own5, 5),
+        c.part_mut(&mut own6, 6),
+        c.part_mut(&mut own7, 7),
+        c.part_mut(&mut own8, 8),
+        c.part_mut(&mut own9, 9),
     )?;
-    slices::tell(out, words, held, 1)?;
-    slices::tell(out, words, held, 2)?;
-    slices::told(out, words, own3, 3)?;
-    slices::told(out, words, own4, 4)?;
-    slices::told(out, words, own5, 5)?;
-    slices::told(out, words, own6, 6)?;
-    slices::told(out, words, own7, 7)?;
-    slices::told(out, words, own8, 8)?;
-    slices::told_marks(out, words, own9, 9)
+    c.tell(out, &c.numbers, 1)?;
+    c.tell(out, &c.numbers, 2)?;
+    c.tell(out, &own3, 3)?;
+    c.tell(out, &own4, 4)?;
+    c.tell(out, &own5, 5)?;
+    c.tell(out, &own6, 6)?;
+    c.tell(out, &own7, 7)?;
+    c.tell(out, &own8, 8)?;
+    c.tell(out, &own9, 9)
 }
 
 // ---- each by what it writes
 
-fn writes_three<W: Write>(out: &mut W, c: Case, words: &[u64], held: &[f64]) -> io::Result<()> {
-    let call = c.call;
-    match call {
-        0x109 => second_order_combined(out, c, words, held),
-        0x209 => nonnegative_combined(out, c, words, held),
-        _ => list_combined(out, c, words, held),
+fn writes_three<W: Write>(out: &mut W, c: &Case) -> io::Result<()> {
+    match c.call {
+        0x109 => second_order_combined(out, c),
+        0x209 => nonnegative_combined(out, c),
+        _ => list_combined(out, c),
     }
 }
 
-fn writes_most<W: Write>(
-    out: &mut W,
-    c: Case,
-    row: &[[usize; 3]],
-    words: &[u64],
-    held: &[f64],
-) -> io::Result<()> {
-    let call = c.call;
-    match call {
-        0x103 => second_order_identity(out, words, held),
-        0x303 => list_identity(out, c, words),
-        0x104 => second_order_scaling(out, words, held),
-        _ => list_scaling(out, c, row, words, held),
+fn writes_most<W: Write>(out: &mut W, c: &Case) -> io::Result<()> {
+    match c.call {
+        0x103 => second_order_identity(out, c),
+        0x303 => list_identity(out, c),
+        0x104 => second_order_scaling(out, c),
+        _ => list_scaling(out, c),
     }
 }
 
-fn writes_none<W: Write>(
-    out: &mut W,
-    c: Case,
-    row: &[[usize; 3]],
-    words: &[u64],
-    held: &[f64],
-) -> io::Result<()> {
-    let x = slices::part(words, held, 1);
-    let y = slices::part(words, held, 2);
-    let slices = c.slices;
-    match slices {
-        0 => case_answers::value(out, number(c)),
+fn writes_none<W: Write>(out: &mut W, c: &Case) -> io::Result<()> {
+    let x = c.lent(1);
+    let y = c.lent(2);
+    match c.shape.slices {
+        0 => case_answers::answer(out, Ok(number(c))),
         1 => reads_one(out, c, x),
-        2 => reads_two(out, c, x, y, slices::number(words, held, 2)),
-        3 => list_square(out, c, words, held),
-        _ => reads_four(out, c, row, words, held),
+        2 => reads_two(out, c, x, y, c.number(2)),
+        3 => list_square(out, c),
+        _ => reads_four(out, c),
     }
 }
 
-fn run<W: Write>(
-    out: &mut W,
-    c: Case,
-    row: &[[usize; 3]],
-    words: &[u64],
-    held: &[f64],
-) -> io::Result<()> {
-    let written = c.written;
-    match written {
-        0 => writes_none(out, c, row, words, held),
-        1 => if c.marked {
-            list_writes_one(out, c, words, held)
-        } else if c.slices == 6 {
-            second_order_offset(out, words, held)
+fn run<W: Write>(out: &mut W, c: &Case) -> io::Result<()> {
+    match c.shape.written {
+        0 => writes_none(out, c),
+        1 => if c.shape.marked {
+            list_writes_one(out, c)
+        } else if c.shape.slices == 6 {
+            second_order_offset(out, c)
         } else {
-            writes_one(out, c, words, held)
+            writes_one(out, c)
         },
-        2 => if c.slices == 2 {
-            writes_two(out, c, words)
+        2 => if c.shape.slices == 2 {
+            writes_two(out, c)
         } else {
-            nonnegative_scaling(out, words, held)
+            nonnegative_scaling(out, c)
         },
-        3 => writes_three(out, c, words, held),
-        _ => writes_most(out, c, row, words, held),
-    }
-}
-
-// The slices behind the first `told` ones, as they were read.
-fn tell_rest<W: Write>(
-    out: &mut W,
-    words: &[u64],
-    held: &[f64],
-    told: usize,
-    slices: usize,
-    marked: bool,
-) -> io::Result<()> {
-    if !marked {
-        slices::tell_behind(out, words, held, told, slices)
-    } else if told < slices {
-        slices::tell_behind(out, words, held, told, slices - 1)?;
-        slices::told_marks(out, words, slices::all_marks(words), slices)
-    } else {
-        Ok(())
+        3 => writes_three(out, c),
+        _ => writes_most(out, c),
     }
 }
 
 // A case run, and told in one line: the slices that the call only reads are told as they were read.
-pub fn made<W: Write>(out: &mut W, c: Case, row: &[[usize; 3]], words: &[u64]) -> io::Result<()> {
-    let held = slices::numbers(words);
-    run(out, c, row, words, &held)?;
+pub fn made<W: Write>(out: &mut W, c: &Case) -> io::Result<()> {
+    run(out, c)?;
+    let slices = c.shape.slices;
     // an update of a scaling has told all its slices, any other call those that it writes, which come first
     let told = if (c.call % 256 == 4) | (c.call == 0x313) {
-        c.slices
+        slices
     } else {
-        c.written
+        c.shape.written
     };
-    tell_rest(out, words, &held, told, c.slices, c.marked)?;
-    show::newline(out)
+    for k in told..slices {
+        if c.shape.marked & (k + 1 == slices) {
+            c.tell(out, &c.marks, slices)?;
+        } else {
+            c.tell(out, &c.numbers, k + 1)?;
+        }
+    }
+    writeln!(out)
 }

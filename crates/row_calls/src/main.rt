@@ -1,62 +1,51 @@
-// Each call over a lent row of cones, run once: the program lends a row of its own (`local_calls`), three cones of which the first is
+// Each call over a lent row of cones, run once: the program lends the front of a row of its own (`local_rows`), three cones of which the first is
 // nonnegative, the second dense and the third sparse. A line is the call, the cone, the answer and all that the call left in each buffer that
 // it may write. Of our own; nothing is ported.
 #![tactic(auto)]
 
-use answers::{Answer, Margins, Row, Scaling, Standing, Stands, Steps};
+use answers::{Refusal, Row};
 use conelist::{Cone, Kind};
 use std::io;
 use std::io::{BufWriter, Write};
 
 // ---- how an answer is written
 
-fn begin<W: Write>(out: &mut W, call: &[u8], k: usize) -> io::Result<()> {
-    show::label(out, call)?;
-    show::decimal(out, k as u64)?;
-    show::text(out, b": ")
+fn begin<W: Write>(out: &mut W, call: &str, k: usize) -> io::Result<()> {
+    write!(out, "{call:<40}{k}: ")
 }
 
-fn say<W: Write>(out: &mut W, call: &[u8], k: usize, a: Answer) -> io::Result<()> {
+fn say<W: Write>(out: &mut W, call: &str, k: usize, a: Result<(), Refusal>) -> io::Result<()> {
     begin(out, call, k)?;
     match a {
-        Answer::Done => show::text(out, b"done"),
-        Answer::Refused(no) => show::refused(out, no),
+        Ok(()) => write!(out, "done"),
+        Err(refusal) => write!(out, "{refusal}"),
     }
 }
 
-fn say_scaling<W: Write>(out: &mut W, call: &[u8], k: usize, a: Scaling) -> io::Result<()> {
+fn say_scaling<W: Write>(
+    out: &mut W,
+    call: &str,
+    k: usize,
+    a: Result<bool, Refusal>,
+) -> io::Result<()> {
     begin(out, call, k)?;
     match a {
-        Scaling::Truth(true) => show::text(out, b"true"),
-        Scaling::Truth(false) => show::text(out, b"false"),
-        Scaling::Refused(no) => show::refused(out, no),
-    }
-}
-
-fn say_standing<W: Write>(out: &mut W, s: Standing) -> io::Result<()> {
-    match s {
-        Standing::Inside => show::text(out, b"inside"),
-        Standing::Edge => show::text(out, b"edge"),
-        Standing::Outside => show::text(out, b"outside"),
-        Standing::Mirrored => show::text(out, b"mirrored"),
-        Standing::NotNumber => show::text(out, b"not a number"),
+        Ok(t) => write!(out, "{t}"),
+        Err(refusal) => write!(out, "{refusal}"),
     }
 }
 
 fn two<W: Write>(out: &mut W, a: f64, b: f64) -> io::Result<()> {
-    show::number(out, a)?;
-    show::text(out, b" ")?;
-    show::number(out, b)
+    write!(out, "{} {}", show::spell(a), show::spell(b))
 }
 
 fn entry<W: Write>(out: &mut W, x: f64) -> io::Result<()> {
-    show::text(out, b" ")?;
-    show::number(out, x)
+    write!(out, " {}", show::spell(x))
 }
 
 // What a slice holds, behind a bar.
 fn holds<W: Write>(out: &mut W, x: &[f64]) -> io::Result<()> {
-    show::text(out, b" |")?;
+    write!(out, " |")?;
     for y in x {
         entry(out, *y)?;
     }
@@ -64,21 +53,22 @@ fn holds<W: Write>(out: &mut W, x: &[f64]) -> io::Result<()> {
 }
 
 // The line of a call that writes one buffer.
-fn line<W: Write>(out: &mut W, call: &[u8], k: usize, a: Answer, x: &[f64]) -> io::Result<()> {
+fn line<W: Write>(
+    out: &mut W,
+    call: &str,
+    k: usize,
+    a: Result<(), Refusal>,
+    x: &[f64],
+) -> io::Result<()> {
     say(out, call, k, a)?;
     holds(out, x)?;
-    show::newline(out)
+    writeln!(out)
 }
 
 // The three cones' marks, and the line's end.
 fn marked<W: Write>(out: &mut W, marks: [u8; 3]) -> io::Result<()> {
-    show::text(out, b" | ")?;
-    show::decimal(out, marks[0] as u64)?;
-    show::text(out, b" ")?;
-    show::decimal(out, marks[1] as u64)?;
-    show::text(out, b" ")?;
-    show::decimal(out, marks[2] as u64)?;
-    show::newline(out)
+    let [first, second, third] = marks;
+    writeln!(out, " | {first} {second} {third}")
 }
 
 // Five buffers.
@@ -138,28 +128,28 @@ fn point_ten() -> [f64; 10] {
 // ---- the calls
 
 fn margins<W: Write>(out: &mut W, first: &[f64]) -> io::Result<()> {
-    begin(out, b"margins", 2)?;
-    match local_calls::margins(row(), 3, 2, first) {
-        Margins::Are(a, b) => two(out, a, b)?,
-        Margins::Refused(no) => show::refused(out, no)?,
+    begin(out, "margins", 2)?;
+    match list_calls::margins(local_rows::front(&row(), 3), 2, first) {
+        Ok(m) => two(out, m.alpha, m.beta)?,
+        Err(refusal) => write!(out, "{refusal}")?,
     }
-    show::newline(out)
+    writeln!(out)
 }
 
 fn scaled_unit_shift<W: Write>(out: &mut W) -> io::Result<()> {
     let mut z = first_ten();
-    let a = local_calls::scaled_unit_shift(row(), 3, 0, &mut z, 0.5);
-    line(out, b"scaled_unit_shift", 0, a, &z)
+    let a = list_calls::scaled_unit_shift(local_rows::front(&row(), 3), 0, &mut z, 0.5);
+    line(out, "scaled_unit_shift", 0, a, &z)
 }
 
 fn unit_initialization<W: Write>(out: &mut W) -> io::Result<()> {
     let mut z = first_ten();
     let mut s = second_ten();
-    let a = local_calls::unit_initialization(row(), 3, 1, &mut z, &mut s);
-    say(out, b"unit_initialization", 1, a)?;
+    let a = list_calls::unit_initialization(local_rows::front(&row(), 3), 1, &mut z, &mut s);
+    say(out, "unit_initialization", 1, a)?;
     holds(out, &z)?;
     holds(out, &s)?;
-    show::newline(out)
+    writeln!(out)
 }
 
 fn set_identity_scaling<W: Write>(out: &mut W) -> io::Result<()> {
@@ -169,9 +159,8 @@ fn set_identity_scaling<W: Write>(out: &mut W) -> io::Result<()> {
     let mut eta = [3.0; 3];
     let mut d = [4.0; 3];
     let mut marks = [0; 3];
-    let a = local_calls::set_identity_scaling(
-        row(),
-        3,
+    let a = list_calls::set_identity_scaling(
+        local_rows::front(&row(), 3),
         2,
         &mut w,
         &mut u,
@@ -180,7 +169,7 @@ fn set_identity_scaling<W: Write>(out: &mut W) -> io::Result<()> {
         &mut d,
         &mut marks,
     );
-    say(out, b"set_identity_scaling", 2, a)?;
+    say(out, "set_identity_scaling", 2, a)?;
     five(out, &w, &u, &v, &eta, &d)?;
     marked(out, marks)
 }
@@ -193,9 +182,8 @@ fn update_scaling<W: Write>(out: &mut W, first: &[f64], second: &[f64]) -> io::R
     let mut eta = [3.0; 3];
     let mut d = [4.0; 3];
     let mut marks = [0; 3];
-    let a = local_calls::update_scaling(
-        row(),
-        3,
+    let a = list_calls::update_scaling(
+        local_rows::front(&row(), 3),
         2,
         first,
         second,
@@ -207,7 +195,7 @@ fn update_scaling<W: Write>(out: &mut W, first: &[f64], second: &[f64]) -> io::R
         &mut d,
         &mut marks,
     );
-    say_scaling(out, b"update_scaling", 2, a)?;
+    say_scaling(out, "update_scaling", 2, a)?;
     holds(out, &w)?;
     five(out, &lambda, &u, &v, &eta, &d)?;
     marked(out, marks)
@@ -215,25 +203,32 @@ fn update_scaling<W: Write>(out: &mut W, first: &[f64], second: &[f64]) -> io::R
 
 fn get_hs<W: Write>(out: &mut W, scale: &[f64]) -> io::Result<()> {
     let mut hs = [7.0; 13];
-    let a = local_calls::get_hs(row(), 3, 1, &mut hs, scale, &[2.0; 3], &[0.5; 3], &[1; 3]);
-    line(out, b"get_hs", 1, a, &hs)
+    let a = list_calls::get_hs(
+        local_rows::front(&row(), 3),
+        1,
+        &mut hs,
+        scale,
+        &[2.0; 3],
+        &[0.5; 3],
+        &[1; 3],
+    );
+    line(out, "get_hs", 1, a, &hs)
 }
 
 fn square_hs<W: Write>(out: &mut W, scale: &[f64]) -> io::Result<()> {
-    begin(out, b"square_hs", 1)?;
-    let got = local_calls::square_hs(row(), 3, 1, scale, &[2.0; 3], &[1; 3]);
-    show::decimal(out, got.no as u64)?;
+    begin(out, "square_hs", 1)?;
+    let got = list_calls::square_hs(local_rows::front(&row(), 3), 1, scale, &[2.0; 3], &[1; 3]);
+    write!(out, "{}", got.no)?;
     for row in &got.rows {
         holds_row(out, row)?;
     }
-    show::newline(out)
+    writeln!(out)
 }
 
 fn mul_w<W: Write>(out: &mut W, second: &[f64], scale: &[f64]) -> io::Result<()> {
     let mut y = first_ten();
-    let a = local_calls::mul_w(
-        row(),
-        3,
+    let a = list_calls::mul_w(
+        local_rows::front(&row(), 3),
         2,
         &mut y,
         second,
@@ -243,14 +238,13 @@ fn mul_w<W: Write>(out: &mut W, second: &[f64], scale: &[f64]) -> io::Result<()>
         &[2.0; 3],
         &[1; 3],
     );
-    line(out, b"mul_w", 2, a, &y)
+    line(out, "mul_w", 2, a, &y)
 }
 
 fn mul_winv<W: Write>(out: &mut W, second: &[f64], scale: &[f64]) -> io::Result<()> {
     let mut y = first_ten();
-    let a = local_calls::mul_winv(
-        row(),
-        3,
+    let a = list_calls::mul_winv(
+        local_rows::front(&row(), 3),
         1,
         &mut y,
         second,
@@ -260,37 +254,52 @@ fn mul_winv<W: Write>(out: &mut W, second: &[f64], scale: &[f64]) -> io::Result<
         &[2.0; 3],
         &[1; 3],
     );
-    line(out, b"mul_winv", 1, a, &y)
+    line(out, "mul_winv", 1, a, &y)
 }
 
 fn mul_hs<W: Write>(out: &mut W, second: &[f64], scale: &[f64]) -> io::Result<()> {
     let mut y = point_ten();
-    let a = local_calls::mul_hs(row(), 3, 0, &mut y, second, scale, &[2.0; 3], &[1; 3]);
-    line(out, b"mul_hs", 0, a, &y)
+    let a = list_calls::mul_hs(
+        local_rows::front(&row(), 3),
+        0,
+        &mut y,
+        second,
+        scale,
+        &[2.0; 3],
+        &[1; 3],
+    );
+    line(out, "mul_hs", 0, a, &y)
 }
 
 fn circ_op<W: Write>(out: &mut W, first: &[f64], second: &[f64]) -> io::Result<()> {
     let mut x = point_ten();
-    let a = local_calls::circ_op(row(), 3, 1, &mut x, first, second);
-    line(out, b"circ_op", 1, a, &x)
+    let a = list_calls::circ_op(local_rows::front(&row(), 3), 1, &mut x, first, second);
+    line(out, "circ_op", 1, a, &x)
 }
 
 fn affine_ds<W: Write>(out: &mut W, point: &[f64]) -> io::Result<()> {
     let mut ds = first_ten();
-    let a = local_calls::affine_ds(row(), 3, 2, &mut ds, point, &[2; 3]);
-    line(out, b"affine_ds", 2, a, &ds)
+    let a = list_calls::affine_ds(local_rows::front(&row(), 3), 2, &mut ds, point, &[2; 3]);
+    line(out, "affine_ds", 2, a, &ds)
 }
 
 fn inv_circ_op<W: Write>(out: &mut W, first: &[f64], second: &[f64]) -> io::Result<()> {
     let mut x = point_ten();
-    let a = local_calls::inv_circ_op(row(), 3, 0, &mut x, first, second);
-    line(out, b"inv_circ_op", 0, a, &x)
+    let a = list_calls::inv_circ_op(local_rows::front(&row(), 3), 0, &mut x, first, second);
+    line(out, "inv_circ_op", 0, a, &x)
 }
 
 fn lambda_inv_circ_op<W: Write>(out: &mut W, second: &[f64], point: &[f64]) -> io::Result<()> {
     let mut x = first_ten();
-    let a = local_calls::lambda_inv_circ_op(row(), 3, 1, &mut x, second, point, &[2; 3]);
-    line(out, b"lambda_inv_circ_op", 1, a, &x)
+    let a = list_calls::lambda_inv_circ_op(
+        local_rows::front(&row(), 3),
+        1,
+        &mut x,
+        second,
+        point,
+        &[2; 3],
+    );
+    line(out, "lambda_inv_circ_op", 1, a, &x)
 }
 
 fn ds_from_dz_offset<W: Write>(
@@ -301,9 +310,8 @@ fn ds_from_dz_offset<W: Write>(
     point: &[f64],
 ) -> io::Result<()> {
     let mut ds = first_ten();
-    let a = local_calls::ds_from_dz_offset(
-        row(),
-        3,
+    let a = list_calls::ds_from_dz_offset(
+        local_rows::front(&row(), 3),
         1,
         &mut ds,
         second,
@@ -313,16 +321,15 @@ fn ds_from_dz_offset<W: Write>(
         &[2.0; 3],
         &[2; 3],
     );
-    line(out, b"ds_from_dz_offset", 1, a, &ds)
+    line(out, "ds_from_dz_offset", 1, a, &ds)
 }
 
 fn combined_ds_shift<W: Write>(out: &mut W, scale: &[f64]) -> io::Result<()> {
     let mut shift = point_ten();
     let mut step_z = first_ten();
     let mut step_s = second_ten();
-    let a = local_calls::combined_ds_shift(
-        row(),
-        3,
+    let a = list_calls::combined_ds_shift(
+        local_rows::front(&row(), 3),
         2,
         &mut shift,
         &mut step_z,
@@ -332,29 +339,37 @@ fn combined_ds_shift<W: Write>(out: &mut W, scale: &[f64]) -> io::Result<()> {
         &[2.0; 3],
         &[1; 3],
     );
-    say(out, b"combined_ds_shift", 2, a)?;
+    say(out, "combined_ds_shift", 2, a)?;
     holds(out, &shift)?;
     holds(out, &step_z)?;
     holds(out, &step_s)?;
-    show::newline(out)
+    writeln!(out)
 }
 
 fn step_length<W: Write>(out: &mut W, first: &[f64], second: &[f64]) -> io::Result<()> {
-    begin(out, b"step_length", 1)?;
-    match local_calls::step_length(row(), 3, 1, &[-1.0; 10], &[-2.0; 10], first, second, 10.0) {
-        Steps::Lengths(pair) => two(out, pair.z, pair.s)?,
-        Steps::Refused(no) => show::refused(out, no)?,
+    begin(out, "step_length", 1)?;
+    match list_calls::step_length(
+        local_rows::front(&row(), 3),
+        1,
+        &[-1.0; 10],
+        &[-2.0; 10],
+        first,
+        second,
+        10.0,
+    ) {
+        Ok(pair) => two(out, pair.z, pair.s)?,
+        Err(refusal) => write!(out, "{refusal}")?,
     }
-    show::newline(out)
+    writeln!(out)
 }
 
 fn standing<W: Write>(out: &mut W, first: &[f64]) -> io::Result<()> {
-    begin(out, b"standing", 2)?;
-    match local_calls::standing(row(), 3, 2, first) {
-        Stands::As(s) => say_standing(out, s)?,
-        Stands::Refused(no) => show::refused(out, no)?,
+    begin(out, "standing", 2)?;
+    match list_calls::standing(local_rows::front(&row(), 3), 2, first) {
+        Ok(s) => write!(out, "{s}")?,
+        Err(refusal) => write!(out, "{refusal}")?,
     }
-    show::newline(out)
+    writeln!(out)
 }
 
 fn calls<W: Write>(

@@ -5,57 +5,55 @@
 
 ghost use Rattle.std.specs.Prelude.{◌≤◌, ◌+◌};
 
-use answers::{Answer, Margins, Scaling, Scalings, Steps};
+use answers::{Refusal, StepPair};
 use conelist::{Cone, Kind};
 use std::io;
 use std::io::{BufWriter, Write};
 
 // ---- how an answer is written
 
-fn told<W: Write>(out: &mut W, a: Answer) -> io::Result<()> {
+fn told<W: Write>(out: &mut W, a: Result<(), Refusal>) -> io::Result<()> {
     match a {
-        Answer::Done => show::text(out, b"done"),
-        Answer::Refused(no) => show::refused(out, no),
+        Ok(()) => write!(out, "done"),
+        Err(refusal) => write!(out, "{refusal}"),
     }
 }
 
-fn say<W: Write>(out: &mut W, a: Answer) -> io::Result<()> {
+fn say<W: Write>(out: &mut W, a: Result<(), Refusal>) -> io::Result<()> {
     told(out, a)?;
-    show::newline(out)
+    writeln!(out)
 }
 
 fn two<W: Write>(out: &mut W, a: f64, b: f64) -> io::Result<()> {
-    show::number(out, a)?;
-    show::text(out, b" ")?;
-    show::number(out, b)
+    write!(out, "{} {}", show::spell(a), show::spell(b))
 }
 
-fn say_scaling<W: Write>(out: &mut W, a: Scaling) -> io::Result<()> {
-    match a {
-        Scaling::Truth(true) => show::text(out, b"true")?,
-        Scaling::Truth(false) => show::text(out, b"false")?,
-        Scaling::Refused(no) => show::refused(out, no)?,
-    }
-    show::newline(out)
+fn three_of<W: Write>(out: &mut W, a: f64, b: f64, c: f64) -> io::Result<()> {
+    two(out, a, b)?;
+    write!(out, " {}", show::spell(c))
 }
 
-fn say_scalings<W: Write>(out: &mut W, a: Scalings) -> io::Result<()> {
+fn say_scaling<W: Write>(out: &mut W, a: Result<bool, Refusal>) -> io::Result<()> {
     match a {
-        Scalings::AllTrue => show::text(out, b"true"),
-        Scalings::FalseAt(k) => {
-            show::text(out, b"false at ")?;
-            show::decimal(out, k as u64)
-        }
-        Scalings::Refused(no) => show::refused(out, no),
+        Ok(t) => writeln!(out, "{t}"),
+        Err(refusal) => writeln!(out, "{refusal}"),
     }
 }
 
-fn say_steps<W: Write>(out: &mut W, a: Steps) -> io::Result<()> {
+fn say_scalings<W: Write>(out: &mut W, a: Result<Option<usize>, Refusal>) -> io::Result<()> {
     match a {
-        Steps::Lengths(pair) => two(out, pair.z, pair.s)?,
-        Steps::Refused(no) => show::refused(out, no)?,
+        Ok(None) => write!(out, "true"),
+        Ok(Some(k)) => write!(out, "false at {k}"),
+        Err(refusal) => write!(out, "{refusal}"),
     }
-    show::newline(out)
+}
+
+fn say_steps<W: Write>(out: &mut W, a: Result<StepPair, Refusal>) -> io::Result<()> {
+    match a {
+        Ok(pair) => two(out, pair.z, pair.s)?,
+        Err(refusal) => write!(out, "{refusal}")?,
+    }
+    writeln!(out)
 }
 
 // ---- rows of cones, of which the first so many are lent
@@ -97,79 +95,79 @@ fn ten() -> [Cone; 257] {
 // The margins of cone k, where every entry is 1, of ten entries in all.
 fn line<W: Write>(
     out: &mut W,
-    of: &[u8],
-    list: [Cone; 257],
+    of: &str,
+    list: &[Cone; 257],
     cones: usize,
     k: usize,
 ) -> io::Result<()> {
-    show::label(out, of)?;
+    write!(out, "{of:<40}")?;
     match list_margins::margins_at(local_rows::place_in(list, cones, k), &[1.0; 10]) {
-        Margins::Are(a, b) => two(out, a, b)?,
-        Margins::Refused(no) => show::refused(out, no)?,
+        Ok(m) => two(out, m.alpha, m.beta)?,
+        Err(refusal) => write!(out, "{refusal}")?,
     }
-    show::newline(out)
+    writeln!(out)
 }
 
 fn taken<W: Write>(out: &mut W) -> io::Result<()> {
-    line(out, b"cone 0 of three", ten(), 3, 0)?;
-    line(out, b"cone 1 of three", ten(), 3, 1)?;
-    line(out, b"cone 2 of three", ten(), 3, 2)?;
-    line(out, b"cone 3 of three", ten(), 3, 3)?;
-    line(out, b"cone 0 of two, the buffer too long", ten(), 2, 0)
+    line(out, "cone 0 of three", &ten(), 3, 0)?;
+    line(out, "cone 1 of three", &ten(), 3, 1)?;
+    line(out, "cone 2 of three", &ten(), 3, 2)?;
+    line(out, "cone 3 of three", &ten(), 3, 3)?;
+    line(out, "cone 0 of two, the buffer too long", &ten(), 2, 0)
 }
 
 // One cone alone.
-fn alone<W: Write>(out: &mut W, of: &[u8], first: Cone) -> io::Result<()> {
+fn alone<W: Write>(out: &mut W, of: &str, first: Cone) -> io::Result<()> {
     line(
         out,
         of,
-        three(first, nonnegative(0, 0), nonnegative(0, 0)),
+        &three(first, nonnegative(0, 0), nonnegative(0, 0)),
         1,
         0,
     )
 }
 
 fn first_records<W: Write>(out: &mut W) -> io::Result<()> {
-    alone(out, b"start 1 at the first record", nonnegative(1, 10))?;
-    alone(out, b"second-order of dimension 1", second_order(0, 1))?;
+    alone(out, "start 1 at the first record", nonnegative(1, 10))?;
+    alone(out, "second-order of dimension 1", second_order(0, 1))?;
     alone(
         out,
-        b"second-order of dimension 4,097",
+        "second-order of dimension 4,097",
         second_order(0, 4097),
     )?;
-    alone(out, b"nonnegative of dimension 4,097", nonnegative(0, 4097))?;
-    alone(out, b"second-order of dimension 10", second_order(0, 10))
+    alone(out, "nonnegative of dimension 4,097", nonnegative(0, 4097))?;
+    alone(out, "second-order of dimension 10", second_order(0, 10))
 }
 
-fn later<W: Write>(out: &mut W, of: &[u8], second: Cone, third: Cone, k: usize) -> io::Result<()> {
-    line(out, of, three(nonnegative(0, 2), second, third), 3, k)
+fn later<W: Write>(out: &mut W, of: &str, second: Cone, third: Cone, k: usize) -> io::Result<()> {
+    line(out, of, &three(nonnegative(0, 2), second, third), 3, k)
 }
 
 fn later_records<W: Write>(out: &mut W) -> io::Result<()> {
     later(
         out,
-        b"start off by one at the third",
+        "start off by one at the third",
         second_order(2, 3),
         second_order(6, 5),
         0,
     )?;
     later(
         out,
-        b"start off, then dimension 1",
+        "start off, then dimension 1",
         second_order(3, 3),
         second_order(6, 1),
         0,
     )?;
     later(
         out,
-        b"dimension 1, then start off",
+        "dimension 1, then start off",
         second_order(2, 1),
         second_order(6, 5),
         0,
     )?;
     later(
         out,
-        b"start off, and no such cone",
+        "start off, and no such cone",
         second_order(3, 3),
         second_order(6, 4),
         9,
@@ -177,31 +175,31 @@ fn later_records<W: Write>(out: &mut W) -> io::Result<()> {
 }
 
 fn counts<W: Write>(out: &mut W) -> io::Result<()> {
-    line(out, b"no cones", empty(), 0, 0)?;
-    line(out, b"256 cones, the buffer too long", empty(), 256, 255)?;
-    line(out, b"257 cones", empty(), 257, 0)?;
+    line(out, "no cones", &empty(), 0, 0)?;
+    line(out, "256 cones, the buffer too long", &empty(), 256, 255)?;
+    line(out, "257 cones", &empty(), 257, 0)?;
     line(
         out,
-        b"257 cones, all out of range",
-        [second_order(0, 1); 257],
+        "257 cones, all out of range",
+        &[second_order(0, 1); 257],
         257,
         0,
     )
 }
 
 // Sixteen cones of 4,096 entries are 65,536; then a cone of so many entries.
-fn full<W: Write>(out: &mut W, of: &[u8], n: usize) -> io::Result<()> {
+fn full<W: Write>(out: &mut W, of: &str, n: usize) -> io::Result<()> {
     let mut list = empty();
     for i in 0..16 {
         list[i] = nonnegative(4096 * i, 4096);
     }
     list[16] = nonnegative(65536, n);
-    line(out, of, list, 17, 0)
+    line(out, of, &list, 17, 0)
 }
 
 fn totals<W: Write>(out: &mut W) -> io::Result<()> {
-    full(out, b"65,536 entries, the buffer too short", 0)?;
-    full(out, b"65,537 entries", 1)
+    full(out, "65,536 entries, the buffer too short", 0)?;
+    full(out, "65,537 entries", 1)
 }
 
 // ---- each buffer one too short and one too long
@@ -217,10 +215,10 @@ fn long(meant: usize, at: usize, n: usize, more: usize) -> usize
 }
 
 // Scaling of cone 1 of three, ten entries in all; `meant` counts s, z, w, lambda, u, v, eta, d, marks.
-fn scale<W: Write>(out: &mut W, of: &[u8], meant: usize, more: usize) -> io::Result<()>
+fn scale<W: Write>(out: &mut W, of: &str, meant: usize, more: usize) -> io::Result<()>
     requires { more ≤ 2 }
 {
-    show::label(out, of)?;
+    write!(out, "{of:<40}")?;
     let s = [1.0, 1.0, 5.0, 3.0, 0.0, 1.0, 1.0, 1.0, 1.0, 1.0, 1.0];
     let z = s;
     let mut w = [0.0; 11];
@@ -242,7 +240,7 @@ fn scale<W: Write>(out: &mut W, of: &[u8], meant: usize, more: usize) -> io::Res
     say_scaling(
         out,
         list_scaling::update_scaling_at(
-            local_rows::place_in(ten(), 3, 1),
+            local_rows::place_in(&ten(), 3, 1),
             &s[..in_s],
             &z[..in_z],
             &mut w[..in_w],
@@ -257,41 +255,41 @@ fn scale<W: Write>(out: &mut W, of: &[u8], meant: usize, more: usize) -> io::Res
 }
 
 fn scalings<W: Write>(out: &mut W) -> io::Result<()> {
-    scale(out, b"scaling, s one short", 0, 0)?;
-    scale(out, b"scaling, s one long", 0, 2)?;
-    scale(out, b"scaling, z one short", 1, 0)?;
-    scale(out, b"scaling, z one long", 1, 2)?;
-    scale(out, b"scaling, w one short", 2, 0)?;
-    scale(out, b"scaling, w one long", 2, 2)?;
-    scale(out, b"scaling, lambda one short", 3, 0)?;
-    scale(out, b"scaling, lambda one long", 3, 2)
+    scale(out, "scaling, s one short", 0, 0)?;
+    scale(out, "scaling, s one long", 0, 2)?;
+    scale(out, "scaling, z one short", 1, 0)?;
+    scale(out, "scaling, z one long", 1, 2)?;
+    scale(out, "scaling, w one short", 2, 0)?;
+    scale(out, "scaling, w one long", 2, 2)?;
+    scale(out, "scaling, lambda one short", 3, 0)?;
+    scale(out, "scaling, lambda one long", 3, 2)
 }
 
 fn more_scalings<W: Write>(out: &mut W) -> io::Result<()> {
-    scale(out, b"scaling, u one short", 4, 0)?;
-    scale(out, b"scaling, u one long", 4, 2)?;
-    scale(out, b"scaling, v one short", 5, 0)?;
-    scale(out, b"scaling, v one long", 5, 2)?;
-    scale(out, b"scaling, eta one short", 6, 0)?;
-    scale(out, b"scaling, eta one long", 6, 2)?;
-    scale(out, b"scaling, d one short", 7, 0)?;
-    scale(out, b"scaling, d one long", 7, 2)?;
-    scale(out, b"scaling, marks one short", 8, 0)?;
-    scale(out, b"scaling, marks one long", 8, 2)?;
-    scale(out, b"scaling, all of their lengths", 9, 0)
+    scale(out, "scaling, u one short", 4, 0)?;
+    scale(out, "scaling, u one long", 4, 2)?;
+    scale(out, "scaling, v one short", 5, 0)?;
+    scale(out, "scaling, v one long", 5, 2)?;
+    scale(out, "scaling, eta one short", 6, 0)?;
+    scale(out, "scaling, eta one long", 6, 2)?;
+    scale(out, "scaling, d one short", 7, 0)?;
+    scale(out, "scaling, d one long", 7, 2)?;
+    scale(out, "scaling, marks one short", 8, 0)?;
+    scale(out, "scaling, marks one long", 8, 2)?;
+    scale(out, "scaling, all of their lengths", 9, 0)
 }
 
 // The blocks of the same three cones have 2 + 6 + 5 numbers.
-fn block<W: Write>(out: &mut W, of: &[u8], more: usize, mark: u8) -> io::Result<()>
+fn block<W: Write>(out: &mut W, of: &str, more: usize, mark: u8) -> io::Result<()>
     requires { more ≤ 2 }
 {
-    show::label(out, of)?;
+    write!(out, "{of:<40}")?;
     let mut hs = [0.0; 14];
     let in_hs = long(0, 0, 13, more);
     say(
         out,
         list_blocks::get_hs_at(
-            local_rows::place_in(ten(), 3, 1),
+            local_rows::place_in(&ten(), 3, 1),
             &mut hs[..in_hs],
             &[1.0; 10],
             &[1.0; 3],
@@ -302,42 +300,31 @@ fn block<W: Write>(out: &mut W, of: &[u8], more: usize, mark: u8) -> io::Result<
 }
 
 fn blocks<W: Write>(out: &mut W) -> io::Result<()> {
-    block(out, b"blocks, hs one short", 0, 1)?;
-    block(out, b"blocks, hs of its length", 1, 1)?;
-    block(out, b"blocks, hs one long", 2, 1)?;
-    block(out, b"blocks, hs one short, a fresh cone", 0, 0)
+    block(out, "blocks, hs one short", 0, 1)?;
+    block(out, "blocks, hs of its length", 1, 1)?;
+    block(out, "blocks, hs one long", 2, 1)?;
+    block(out, "blocks, hs one short, a fresh cone", 0, 0)
 }
 
 // ---- the square block
 
-fn square<W: Write>(out: &mut W, of: &[u8], k: usize, mark: u8) -> io::Result<()> {
-    show::label(out, of)?;
+fn square<W: Write>(out: &mut W, of: &str, k: usize, mark: u8) -> io::Result<()> {
+    write!(out, "{of:<40}")?;
     let list = three(nonnegative(0, 2), second_order(2, 4), second_order(6, 5));
-    let got = list_square::square_hs_at(
-        local_rows::place_in(list, 3, k),
-        &[2.0; 11],
-        &[1.0; 3],
-        &[mark; 3],
-    );
-    show::decimal(out, got.no as u64)?;
-    show::text(out, b" ")?;
-    let rows = got.rows;
-    let row = rows[0];
-    let first = row.entries;
-    let row = rows[3];
-    let last = row.entries;
-    show::number(out, first[0])?;
-    show::text(out, b" ")?;
-    show::number(out, last[2])?;
-    show::newline(out)
+    let p = local_rows::place_in(&list, 3, k);
+    let got = list_square::square_hs_at(p, &[2.0; 11], &[1.0; 3], &[mark; 3]);
+    write!(out, "{}", got.no)?;
+    write!(out, " ")?;
+    two(out, got.rows[0].entries[0], got.rows[3].entries[2])?;
+    writeln!(out)
 }
 
 fn squares<W: Write>(out: &mut W) -> io::Result<()> {
-    square(out, b"square block, nonnegative", 0, 1)?;
-    square(out, b"square block, dimension 4", 1, 1)?;
-    square(out, b"square block, dimension 5", 2, 1)?;
-    square(out, b"square block, dimension 4, a fresh cone", 1, 0)?;
-    square(out, b"square block, dimension 5, a fresh cone", 2, 0)
+    square(out, "square block, nonnegative", 0, 1)?;
+    square(out, "square block, dimension 4", 1, 1)?;
+    square(out, "square block, dimension 5", 2, 1)?;
+    square(out, "square block, dimension 4, a fresh cone", 1, 0)?;
+    square(out, "square block, dimension 5, a fresh cone", 2, 0)
 }
 
 // ---- steps, of one cone and of the list
@@ -347,56 +334,63 @@ fn four() -> [Cone; 257] {
     three(nonnegative(0, 2), second_order(2, 2), nonnegative(4, 0))
 }
 
-fn step<W: Write>(out: &mut W, of: &[u8], limit: f64) -> io::Result<()> {
-    show::label(out, of)?;
+fn step<W: Write>(out: &mut W, of: &str, limit: f64) -> io::Result<()> {
+    write!(out, "{of:<40}")?;
     let x = [4.0, 9.0, 5.0, 0.0];
     let y = [-1.0, -3.0, 0.0, 1.0];
     say_steps(
         out,
-        list_step::step_length_at(local_rows::place_in(four(), 3, 1), &y, &y, &x, &x, limit),
+        list_step::step_length_at(local_rows::place_in(&four(), 3, 1), &y, &y, &x, &x, limit),
     )
 }
 
 fn steps<W: Write>(out: &mut W) -> io::Result<()> {
-    step(out, b"step, limit 10", 10.0)?;
-    step(out, b"step, limit NaN", 0.0 / 0.0)?;
-    step(out, b"step, limit -1", -1.0)?;
-    step(out, b"step, limit -0", -0.0)?;
-    step(out, b"step, limit infinity", 1.0 / 0.0)
+    step(out, "step, limit 10", 10.0)?;
+    step(out, "step, limit NaN", 0.0 / 0.0)?;
+    step(out, "step, limit -1", -1.0)?;
+    step(out, "step, limit -0", -0.0)?;
+    step(out, "step, limit infinity", 1.0 / 0.0)
 }
 
 // The s side goes nowhere.
 fn whole<W: Write>(
     out: &mut W,
-    of: &[u8],
-    list: [Cone; 257],
+    of: &str,
+    list: &[Cone; 257],
     cones: usize,
     limit: f64,
 ) -> io::Result<()> {
-    show::label(out, of)?;
+    write!(out, "{of:<40}")?;
     let x = [4.0, 9.0, 5.0, 0.0];
     let y = [-1.0, -3.0, 0.0, 1.0];
     say_steps(
         out,
-        local_rows::list_step_in(list, cones, &y, &[0.0; 4], &x, &x, limit),
+        whole_step::list_step_length(local_rows::front(list, cones), &y, &[0.0; 4], &x, &x, limit),
     )
 }
 
 fn wholes<W: Write>(out: &mut W) -> io::Result<()> {
-    whole(out, b"list step, limit 10", four(), 3, 10.0)?;
-    whole(out, b"list step, limit 2", four(), 3, 2.0)?;
-    whole(out, b"list step, a buffer too long", four(), 1, 10.0)?;
-    whole(out, b"list step, limit -1", four(), 3, -1.0)?;
-    whole(out, b"list step, a start off", ten(), 4, -1.0)
+    whole(out, "list step, limit 10", &four(), 3, 10.0)?;
+    whole(out, "list step, limit 2", &four(), 3, 2.0)?;
+    whole(out, "list step, a buffer too long", &four(), 1, 10.0)?;
+    whole(out, "list step, limit -1", &four(), 3, -1.0)?;
+    whole(out, "list step, a start off", &ten(), 4, -1.0)
 }
 
 // An empty list gives the limit twice.
 fn nothing<W: Write>(out: &mut W) -> io::Result<()> {
-    show::label(out, b"list step of no cones, limit 7")?;
+    write!(out, "{:<40}", "list step of no cones, limit 7")?;
     let none: [f64; 0] = [];
     say_steps(
         out,
-        local_rows::list_step_in(empty(), 0, &none, &none, &none, &none, 7.0),
+        whole_step::list_step_length(
+            local_rows::front(&empty(), 0),
+            &none,
+            &none,
+            &none,
+            &none,
+            7.0,
+        ),
     )
 }
 
@@ -404,25 +398,20 @@ fn nothing<W: Write>(out: &mut W) -> io::Result<()> {
 
 // Three marks, and the line's end.
 fn said<W: Write>(out: &mut W, marks: [u8; 3]) -> io::Result<()> {
-    show::text(out, b" | ")?;
-    show::decimal(out, marks[0] as u64)?;
-    show::text(out, b" ")?;
-    show::decimal(out, marks[1] as u64)?;
-    show::text(out, b" ")?;
-    show::decimal(out, marks[2] as u64)?;
-    show::newline(out)
+    let [first, second, third] = marks;
+    writeln!(out, " | {first} {second} {third}")
 }
 
 // Behind the answer, of the first three cones, what eta, the first entries of w and the marks hold: 9, 7 and 0, 1, 3 where they are not written.
 fn scaled<W: Write>(
     out: &mut W,
-    of: &[u8],
-    list: [Cone; 257],
+    of: &str,
+    list: &[Cone; 257],
     cones: usize,
     s: [f64; 6],
     z: [f64; 6],
 ) -> io::Result<()> {
-    show::label(out, of)?;
+    write!(out, "{of:<40}")?;
     let mut w = [7.0; 6];
     let mut lambda = [7.0; 6];
     let mut u = [7.0; 6];
@@ -432,9 +421,8 @@ fn scaled<W: Write>(
     let mut marks = [0, 1, 3];
     say_scalings(
         out,
-        local_rows::list_scaling_in(
-            list,
-            cones,
+        whole_scaling::list_update_scaling(
+            local_rows::front(list, cones),
             &s,
             &z,
             &mut w,
@@ -446,18 +434,10 @@ fn scaled<W: Write>(
             &mut marks,
         ),
     )?;
-    show::text(out, b" | ")?;
-    show::number(out, eta[0])?;
-    show::text(out, b" ")?;
-    show::number(out, eta[1])?;
-    show::text(out, b" ")?;
-    show::number(out, eta[2])?;
-    show::text(out, b" | ")?;
-    show::number(out, w[0])?;
-    show::text(out, b" ")?;
-    show::number(out, w[2])?;
-    show::text(out, b" ")?;
-    show::number(out, w[4])?;
+    write!(out, " | ")?;
+    three_of(out, eta[0], eta[1], eta[2])?;
+    write!(out, " | ")?;
+    three_of(out, w[0], w[2], w[4])?;
     said(out, marks)
 }
 
@@ -471,13 +451,13 @@ fn scaled_lines<W: Write>(out: &mut W) -> io::Result<()> {
     let early = [5.0, 3.0, 1.0, 1.0, 5.0, 3.0];
     let late = [5.0, 3.0, 2.0, 0.0, 5.0, 3.0];
     let turned = [5.0, 3.0, -2.0, 0.0, 5.0, 3.0];
-    scaled(out, b"list scaling, all true", pairs(), 3, inside, inside)?;
-    scaled(out, b"list scaling, early false", pairs(), 3, early, inside)?;
-    scaled(out, b"list scaling, late false", pairs(), 3, late, turned)?;
+    scaled(out, "list scaling, all true", &pairs(), 3, inside, inside)?;
+    scaled(out, "list scaling, early false", &pairs(), 3, early, inside)?;
+    scaled(out, "list scaling, late false", &pairs(), 3, late, turned)?;
     scaled(
         out,
-        b"list scaling, a buffer too long",
-        pairs(),
+        "list scaling, a buffer too long",
+        &pairs(),
         2,
         inside,
         inside,
@@ -490,16 +470,16 @@ fn scaled_edges<W: Write>(out: &mut W) -> io::Result<()> {
     let last = [5.0, 3.0, 5.0, 3.0, 1.0, 1.0];
     scaled(
         out,
-        b"list scaling, false at the first",
-        pairs(),
+        "list scaling, false at the first",
+        &pairs(),
         3,
         first,
         inside,
     )?;
     scaled(
         out,
-        b"list scaling, false at the last",
-        pairs(),
+        "list scaling, false at the last",
+        &pairs(),
         3,
         last,
         inside,
@@ -507,8 +487,8 @@ fn scaled_edges<W: Write>(out: &mut W) -> io::Result<()> {
     let short = three(second_order(0, 2), second_order(2, 2), second_order(4, 1));
     scaled(
         out,
-        b"list scaling, dimension 1 at the last",
-        short,
+        "list scaling, dimension 1 at the last",
+        &short,
         3,
         inside,
         inside,
@@ -516,16 +496,16 @@ fn scaled_edges<W: Write>(out: &mut W) -> io::Result<()> {
     let off = three(second_order(0, 2), second_order(2, 2), second_order(5, 2));
     scaled(
         out,
-        b"list scaling, start off at the last",
-        off,
+        "list scaling, start off at the last",
+        &off,
         3,
         inside,
         inside,
     )?;
     scaled(
         out,
-        b"list scaling, 257 cones",
-        empty(),
+        "list scaling, 257 cones",
+        &empty(),
         257,
         inside,
         inside,
@@ -533,8 +513,8 @@ fn scaled_edges<W: Write>(out: &mut W) -> io::Result<()> {
 }
 
 // An empty list answers true.
-fn scaled_nothing<W: Write>(out: &mut W, of: &[u8], s: &[f64]) -> io::Result<()> {
-    show::label(out, of)?;
+fn scaled_nothing<W: Write>(out: &mut W, of: &str, s: &[f64]) -> io::Result<()> {
+    write!(out, "{of:<40}")?;
     let none: [f64; 0] = [];
     let mut w: [f64; 0] = [];
     let mut lambda: [f64; 0] = [];
@@ -545,9 +525,8 @@ fn scaled_nothing<W: Write>(out: &mut W, of: &[u8], s: &[f64]) -> io::Result<()>
     let mut marks: [u8; 0] = [];
     say_scalings(
         out,
-        local_rows::list_scaling_in(
-            empty(),
-            0,
+        whole_scaling::list_update_scaling(
+            local_rows::front(&empty(), 0),
             s,
             &none,
             &mut w,
@@ -559,29 +538,29 @@ fn scaled_nothing<W: Write>(out: &mut W, of: &[u8], s: &[f64]) -> io::Result<()>
             &mut marks,
         ),
     )?;
-    show::newline(out)
+    writeln!(out)
 }
 
 // ---- marks: 0 is fresh, 1 identity, 2 scaled, and any other counts as fresh
 
 // Of ten entries in all: the product of a second-order cone, its affine_ds and its offset, and a nonnegative cone's offset.
-fn reads<W: Write>(out: &mut W, of: &[u8], mark: u8) -> io::Result<()> {
-    show::label(out, of)?;
+fn reads<W: Write>(out: &mut W, of: &str, mark: u8) -> io::Result<()> {
+    write!(out, "{of:<40}")?;
     let x = [5.0; 10];
     let eta = [1.0; 3];
     let marks = [mark; 3];
     let mut y = [0.0; 10];
-    let p = local_rows::place_in(ten(), 3, 1);
+    let p = local_rows::place_in(&ten(), 3, 1);
     told(out, list_mul_hs::mul_hs_at(p, &mut y, &x, &x, &eta, &marks))?;
-    show::text(out, b" | ")?;
+    write!(out, " | ")?;
     told(out, list_jordan::affine_ds_at(p, &mut y, &x, &marks))?;
-    show::text(out, b" | ")?;
+    write!(out, " | ")?;
     told(
         out,
         list_shifts::ds_from_dz_offset_at(p, &mut y, &x, &x, &x, &x, &eta, &marks),
     )?;
-    show::text(out, b" | ")?;
-    let q = local_rows::place_in(ten(), 3, 0);
+    write!(out, " | ")?;
+    let q = local_rows::place_in(&ten(), 3, 0);
     say(
         out,
         list_shifts::ds_from_dz_offset_at(q, &mut y, &x, &x, &x, &x, &eta, &marks),
@@ -589,19 +568,19 @@ fn reads<W: Write>(out: &mut W, of: &[u8], mark: u8) -> io::Result<()> {
 }
 
 fn marked<W: Write>(out: &mut W) -> io::Result<()> {
-    reads(out, b"a fresh cone", 0)?;
-    reads(out, b"an identity cone", 1)?;
-    reads(out, b"a scaled cone", 2)?;
-    reads(out, b"mark 3", 3)?;
-    reads(out, b"mark 255", 255)
+    reads(out, "a fresh cone", 0)?;
+    reads(out, "an identity cone", 1)?;
+    reads(out, "a scaled cone", 2)?;
+    reads(out, "mark 3", 3)?;
+    reads(out, "mark 255", 255)
 }
 
 // A nonnegative cone's offset reads no mark, but the marks' length is tested.
 fn short_marks<W: Write>(out: &mut W) -> io::Result<()> {
-    show::label(out, b"nonnegative offset, marks one short")?;
+    write!(out, "{:<40}", "nonnegative offset, marks one short")?;
     let x = [5.0; 10];
     let mut y = [0.0; 10];
-    let p = local_rows::place_in(ten(), 3, 0);
+    let p = local_rows::place_in(&ten(), 3, 0);
     say(
         out,
         list_shifts::ds_from_dz_offset_at(p, &mut y, &x, &x, &x, &x, &[1.0; 3], &[2; 2]),
@@ -624,8 +603,8 @@ fn lines<W: Write>(out: &mut W) -> io::Result<()> {
     scaled_lines(out)?;
     scaled_edges(out)?;
     let none: [f64; 0] = [];
-    scaled_nothing(out, b"list scaling of no cones", &none)?;
-    scaled_nothing(out, b"list scaling of no cones, s one long", &[1.0])?;
+    scaled_nothing(out, "list scaling of no cones", &none)?;
+    scaled_nothing(out, "list scaling of no cones, s one long", &[1.0])?;
     marked(out)?;
     short_marks(out)
 }

@@ -190,7 +190,7 @@ module _ (list : List Cone) where
         let ns : List (ℕ × ℕ) = tests_of p d.reads (lengths_of d.reads (ins σ)) in
         let five = clear_first (spot_of p) (unlike (fit_all (ms ++ ns))) (d.early p.kind) (later d p.kind (owns p d.writes (outs σ)) (owns p d.reads (ins σ))) e in
         let none = (clear_spot p (clear_both (spot_of p) (unlike (fit_all (ms ++ ns))) five).0).0 in
-        let fits = fits_first ms ns (open_at p (ms ++ ns) 0 (sym five) refl).same in
+        let fits = fits_first ms ns (open_at p (ms ++ ns) (sym five)).same in
         (none, fits.0, keeps p.kind (listing.listed list t.cone none).enough _ (fitted σ none d.writes t.writes fits.0) _ (fitted σ none d.reads t.reads fits.1))
 
     settled : (σ τ : Store) (a : Name) (P : Full a → Full a → Type 0) → P (σ a) (τ a)

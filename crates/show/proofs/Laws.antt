@@ -1,15 +1,15 @@
--- Doubles that are no NaN, and their bits. Assumes nothing.
-use Rattle.std.proofs.Common.{◌≡◌, ℕ, ◌<◌, Bool, false, not, T, pos, sym, ap, ◌∙◌, true≢false, arith}
-use lib.Ieee.{Float, nan, inf, fin, binary64, neg, of_int, of_bits, to_bits, ne, is_nan, fits}
+-- NaN, doubles that are none, and their bits. Assumes nothing.
+use Rattle.std.proofs.Common.{◌≡◌, ℕ, ◌<◌, Bool, true, false, not, T, pos, refl, sym, ap, ◌∙◌, true≢false, arith}
+use lib.Ieee.{Float, nan, inf, fin, binary64, neg, of_int, of_bits, to_bits, is_nan, fits}
 use lib.Ieee.Exact.{HasValue}
 use lib.Ieee.Back.{round_whole}
 use lib.Ieee.Bits.{of_bits-to_bits}
 
-pub no_nan : (x : Float) → ne x x ≡ false → T (not (is_nan x))
-unfolding ne is_nan
-no_nan nan n = absurd (true≢false n)
-no_nan (inf s) n = tt
-no_nan (fin s m e) n = tt
+pub only_nan : (x : Float) → is_nan x ≡ true → nan ≡ x
+unfolding is_nan
+only_nan nan h = refl
+only_nan (inf s) h = absurd (true≢false (sym h))
+only_nan (fin s m e) h = absurd (true≢false (sym h))
 
 finite_no_nan : (x : Float) (s : Bool) (a c : ℕ) → HasValue x s a c → T (not (is_nan x)) × T (not (is_nan (neg x)))
 unfolding is_nan neg

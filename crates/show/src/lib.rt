@@ -1,16 +1,15 @@
-// What our programs print: texts, whole numbers, doubles. Of our own; nothing is ported.
+// How our programs print a double. Of our own; nothing is ported.
 //
 // No contract can say what is written. So how a double is told is a value, which `spell` gives with
-// its promise; a function that prints promises no more than that it ends, and passes on the error of
-// a writer that takes no more.
+// its promise, and its `Display` writes; what prints promises no more than that it ends, and passes on
+// the error of a writer that takes no more.
 #![tactic(auto)]
 
 ghost use Rattle.std.specs.Prelude.{◌≡◌, from_bits};
 ghost use Rattle.std.specs.Float.{binary64};
 ghost use Rattle.show.specs.Spelling.{stands};
 
-use std::io;
-use std::io::Write;
+use std::fmt;
 
 // How a double is told: a whole number below 2^53 by its digits, with a minus or without; any
 // other by its bits.
@@ -22,11 +21,22 @@ pub enum Spelling {
     Bits(u64),
 }
 
+impl fmt::Display for Spelling {
+    fn fmt<W: fmt::Write>(&self, f: &mut fmt::Formatter<W>) -> fmt::Result {
+        match self {
+            Spelling::NotNumber => f.write_str("NaN"),
+            Spelling::Whole(n) => write!(f, "{n}"),
+            Spelling::Minus(n) => write!(f, "-{n}"),
+            Spelling::Bits(b) => write!(f, "0x{b:016x}"),
+        }
+    }
+}
+
 // What is told stands for x.
 pub fn spell(x: f64) -> Spelling
     ensures { stands result ≡ x }
 {
-    if x != x {
+    if x.is_nan() {
         return Spelling::NotNumber;
     }
     let b = f64::to_bits(x);
@@ -54,60 +64,4 @@ fn spell_whole(b: u64, n: u64) -> Spelling
         return Spelling::Minus(n);
     }
     Spelling::Bits(b)
-}
-
-pub fn text<W: Write>(out: &mut W, s: &[u8]) -> io::Result<()> {
-    out.write_all(s)
-}
-
-pub fn newline<W: Write>(out: &mut W) -> io::Result<()> {
-    text(out, b"\n")
-}
-
-// The text, then spaces up to column 40.
-pub fn label<W: Write>(out: &mut W, s: &[u8]) -> io::Result<()> {
-    text(out, s)?;
-    let spaces = [b' '; 40];
-    let n = s.len();
-    if n < 40 {
-        text(out, &spaces[n..])?;
-    }
-    Ok(())
-}
-
-pub fn decimal<W: Write>(out: &mut W, n: u64) -> io::Result<()> {
-    write!(out, "{n}")
-}
-
-// 0x and 16 digits.
-pub fn hex<W: Write>(out: &mut W, b: u64) -> io::Result<()> {
-    write!(out, "0x{b:016x}")
-}
-
-// A double as `spell` tells it.
-pub fn number<W: Write>(out: &mut W, x: f64) -> io::Result<()> {
-    match spell(x) {
-        Spelling::NotNumber => text(out, b"NaN"),
-        Spelling::Whole(n) => decimal(out, n),
-        Spelling::Minus(n) => {
-            text(out, b"-")?;
-            decimal(out, n)
-        }
-        Spelling::Bits(b) => hex(out, b),
-    }
-}
-
-// A double by its bits, or the word NaN.
-pub fn bits<W: Write>(out: &mut W, x: f64) -> io::Result<()> {
-    if x != x {
-        text(out, b"NaN")
-    } else {
-        hex(out, f64::to_bits(x))
-    }
-}
-
-// A refusal by its number.
-pub fn refused<W: Write>(out: &mut W, no: u8) -> io::Result<()> {
-    text(out, b"refused ")?;
-    decimal(out, no as u64)
 }

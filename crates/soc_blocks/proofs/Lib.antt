@@ -1,5 +1,5 @@
--- `Columns`: the upper triangle by columns, and the law of the loop that writes it. `Laws`: of the block, and of its refusals. `Unique`: a
--- contract leaves one result. `Worked`: examples, computed.
+-- `Columns`: the upper triangle by columns, and the law of the loop that writes it. `Laws`: of the block. `Unique`: a contract leaves one
+-- result. `Worked`: examples, computed.
 pub mod Columns
 pub mod Laws
 pub mod Unique

@@ -1,5 +1,5 @@
 -- Document 01, "Second-order rules": Hs, packed; source document 000, lines 217 to 246. Assumes nothing.
-use Rattle.std.specs.Prelude.{ℕ, zero, suc, ◌+◌, cond, List, [], ◌∷◌, ◌++◌, eqb, length, Float}
+use Rattle.std.specs.Prelude.{ℕ, zero, suc, cond, List, [], ◌∷◌, ◌++◌, eqb, length, Float}
 use Rattle.std.specs.Float.{binary64}
 use Rattle.std.specs.Float.Ieee.{of_bits}
 use Rattle.vecmath.specs.Double.{◌⊕◌, ◌⊖◌, ◌⊗◌, 𝟏, 𝟐, ◌!◌}

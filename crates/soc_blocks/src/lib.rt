@@ -1,6 +1,6 @@
 // The second-order cone's block Hs (source document 000, lines 217 to 246), packed: the bare call, and behind it the kernel that it calls
 // once nothing is refused.
-#![tactic(auto)]
+#![tactic(auto, using(answers::proofs::Laws::outcomes, answers::proofs::Laws::fits, vecmath::proofs::Loops::loops), unfolding(crate::specs::Block::dense_entry, crate::specs::Block::sparse_hs, crate::specs::Block::dense_hs, crate::specs::Block::hs_of))]
 
 ghost use Rattle.std.specs.Prelude.{◌≡◌, ◌+◌, ◌*◌, ◌/◌, ◌≤◌, ◌<◌, length};
 ghost use Rattle.vecmath.specs.Double.{◌⊗◌};
@@ -9,7 +9,7 @@ ghost use Rattle.answers.specs.Refusal.{block_length};
 ghost use Rattle.answers.specs.Outcome.{tells, of_answer, ◌⨾◌};
 ghost use Rattle.soc_blocks.specs.Block.{sparse_hs, dense_entry, dense_hs, hs_of, soc_get_hs};
 
-use answers::Answer;
+use answers::Refusal;
 
 const SQRT_2: f64 = 1.4142135623730951;
 
@@ -37,10 +37,8 @@ fn column(part: &mut [f64], w: &[f64], eta2: f64, col: usize)
     requires { (length part.old ≡ col + 1) × (col < length w.now) }
     ensures { part.new ≡ each (col + 1) (λ row. eta2 ⊗ dense_entry w.now row col) }
 {
-    let mut row = 0;
-    while row < part.len() {
-        part[row] = eta2 * dense_entry(w, row, col);
-        row += 1;
+    for (row, v) in part.iter_mut().enumerate() {
+        *v = eta2 * dense_entry(w, row, col);
     }
 }
 
@@ -51,12 +49,10 @@ fn dense_hs(hs: &mut [f64], w: &[f64], eta: f64)
 {
     let eta2 = eta * eta;
     let mut at = 0;
-    let mut col = 0;
-    while col < w.len() {
+    for col in 0..w.len() {
         let end = at + col + 1;
         column(&mut hs[at..end], w, eta2, col);
         at = end;
-        col += 1;
     }
 }
 
@@ -81,14 +77,11 @@ pub fn get_hs(hs: &mut [f64], w: &[f64], eta: f64, d: f64)
     }
 }
 
-pub fn soc_get_hs(hs: &mut [f64], w: &[f64], eta: &f64, d: &f64) -> Answer
+pub fn soc_get_hs(hs: &mut [f64], w: &[f64], eta: &f64, d: &f64) -> Result<(), Refusal>
     ensures { tells (of_answer result) (hs.new ⨾ tt)
         ≡ soc_get_hs hs.old w.now eta.now d.now }
 {
-    let no = answers::refusal(2, w.len(), hs.len() == block_length(w.len()));
-    if no != 0 {
-        return Answer::Refused(no);
-    }
+    answers::check(2, w.len(), hs.len() == block_length(w.len()))?;
     get_hs(hs, w, *eta, *d);
-    Answer::Done
+    Ok(())
 }

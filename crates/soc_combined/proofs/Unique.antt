@@ -2,11 +2,12 @@
 use mathlib.Core.Path.{◌≡◌}
 use mathlib.Core.List.{List}
 use lib.Ieee.{Float}
-use Rattle.answers.specs.declared.Answer.{Answer}
+use Rattle.std.specs.Prelude.{Result}
+use Rattle.answers.specs.declared.Refusal.{Refusal}
 use Rattle.answers.specs.Outcome.{tells, of_answer, Contents}
 use Rattle.answers.proofs.Unique.{one_answer}
 use Rattle.soc_combined.specs.Combined.{soc_combined_ds_shift}
 
-module _ {r r' : Answer} {e e' : Contents 3 0} where
+module _ {r r' : Result (Unit {0}) Refusal} {e e' : Contents 3 0} where
   soc_combined_ds_shift_lem : (shift Δz Δs : List Float) (σμ : Float) (w : List Float) (η : Float) → tells (of_answer r) e ≡ soc_combined_ds_shift shift Δz Δs σμ w η → tells (of_answer r') e' ≡ soc_combined_ds_shift shift Δz Δs σμ w η → (r ≡ r') × (e ≡ e')
   soc_combined_ds_shift_lem shift Δz Δs σμ w η = one_answer

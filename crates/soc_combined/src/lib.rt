@@ -1,13 +1,13 @@
 // The shift in the combined step, of the second-order cone (source document 002, lines 53 to 84): the bare call, and behind it the kernel
 // that it calls once nothing is refused. step_z and step_s are overwritten, and shift is the workspace.
-#![tactic(auto)]
+#![tactic(auto, using(answers::proofs::Laws::outcomes, answers::proofs::Laws::fits), unfolding(crate::specs::Combined::combined_shift))]
 
 ghost use Rattle.std.specs.Prelude.{◌≡◌, [], ◌∷◌, length};
 ghost use Rattle.answers.specs.Refusal.{Fit};
 ghost use Rattle.answers.specs.Outcome.{tells, of_answer, ◌⨾◌};
 ghost use Rattle.soc_combined.specs.Combined.{combined_shift, soc_combined_ds_shift};
 
-use answers::Answer;
+use answers::Refusal;
 
 pub fn combined_ds_shift(
     shift: &mut [f64],
@@ -39,7 +39,7 @@ pub fn soc_combined_ds_shift(
     sigma_mu: f64,
     w: &[f64],
     eta: &f64,
-) -> Answer
+) -> Result<(), Refusal>
     ensures { tells (of_answer result) (shift.new ⨾ step_z.new ⨾ step_s.new ⨾ tt)
         ≡ soc_combined_ds_shift shift.old step_z.old step_s.old sigma_mu w.now
         eta.now }
@@ -47,10 +47,7 @@ pub fn soc_combined_ds_shift(
     let same = (step_z.len() == shift.len())
         & (step_s.len() == shift.len())
         & (w.len() == shift.len());
-    let no = answers::refusal(2, shift.len(), same);
-    if no != 0 {
-        return Answer::Refused(no);
-    }
+    answers::check(2, shift.len(), same)?;
     combined_ds_shift(shift, step_z, step_s, sigma_mu, w, *eta);
-    Answer::Done
+    Ok(())
 }

@@ -1,6 +1,6 @@
 // The second-order cone's identity scaling (source document 000, lines 121 to 132). The bare call, and behind it the kernel that it calls
 // once nothing is refused.
-#![tactic(auto)]
+#![tactic(auto, using(answers::proofs::Laws::outcomes, answers::proofs::Laws::fits), unfolding(tails::specs::Tail::leading, crate::specs::Identity::identity_scaling))]
 
 ghost use Rattle.std.specs.Prelude.{◌≡◌, [], ◌∷◌, length};
 ghost use Rattle.tails.specs.Tail.{leading};
@@ -8,7 +8,7 @@ ghost use Rattle.answers.specs.Refusal.{Fit};
 ghost use Rattle.answers.specs.Outcome.{tells, of_answer, ◌⨾◌};
 ghost use Rattle.soc_identity.specs.Identity.{identity_scaling, soc_set_identity_scaling};
 
-use answers::Answer;
+use answers::Refusal;
 
 // x = (a, 0, ..)
 fn leading(x: &mut [f64], a: f64)
@@ -40,14 +40,11 @@ pub fn soc_set_identity_scaling(
     v: &mut [f64],
     eta: &mut f64,
     d: &mut f64,
-) -> Answer
+) -> Result<(), Refusal>
     ensures { tells (of_answer result) (w.new ⨾ u.new ⨾ v.new ⨾ eta.new ⨾ d.new ⨾ tt)
         ≡ soc_set_identity_scaling w.old u.old v.old eta.old d.old }
 {
-    let no = answers::refusal(2, w.len(), (u.len() == w.len()) & (v.len() == w.len()));
-    if no != 0 {
-        return Answer::Refused(no);
-    }
+    answers::check(2, w.len(), (u.len() == w.len()) & (v.len() == w.len()))?;
     set_identity_scaling(w, u, v, eta, d);
-    Answer::Done
+    Ok(())
 }

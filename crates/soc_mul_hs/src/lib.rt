@@ -1,13 +1,13 @@
 // The second-order cone's product with Hs (source document 000, lines 248 to 256): the bare call, and behind it the kernel that it calls
 // once nothing is refused.
-#![tactic(auto)]
+#![tactic(auto, using(answers::proofs::Laws::outcomes, answers::proofs::Laws::fits), unfolding(crate::specs::Block::mul_hs))]
 
 ghost use Rattle.std.specs.Prelude.{◌≡◌, [], ◌∷◌, length};
 ghost use Rattle.answers.specs.Refusal.{Fit};
 ghost use Rattle.answers.specs.Outcome.{tells, of_answer, ◌⨾◌};
 ghost use Rattle.soc_mul_hs.specs.Block.{mul_hs, soc_mul_hs};
 
-use answers::Answer;
+use answers::Refusal;
 
 pub fn mul_hs(y: &mut [f64], x: &[f64], w: &[f64], eta: f64)
     requires { Fit 2 (length y.old) (length x.now ∷ length w.now ∷ []) }
@@ -21,14 +21,11 @@ pub fn mul_hs(y: &mut [f64], x: &[f64], w: &[f64], eta: f64)
 }
 
 // y = Hs·x
-pub fn soc_mul_hs(y: &mut [f64], x: &[f64], w: &[f64], eta: &f64) -> Answer
+pub fn soc_mul_hs(y: &mut [f64], x: &[f64], w: &[f64], eta: &f64) -> Result<(), Refusal>
     ensures { tells (of_answer result) (y.new ⨾ tt)
         ≡ soc_mul_hs y.old x.now w.now eta.now }
 {
-    let no = answers::refusal(2, y.len(), (x.len() == y.len()) & (w.len() == y.len()));
-    if no != 0 {
-        return Answer::Refused(no);
-    }
+    answers::check(2, y.len(), (x.len() == y.len()) & (w.len() == y.len()))?;
     mul_hs(y, x, w, *eta);
-    Answer::Done
+    Ok(())
 }

@@ -1,6 +1,6 @@
 // The second-order cone's offset of Δs from Δz (source document 000, lines 266 to 287): the bare call, and behind it the kernel that it
 // calls once nothing is refused.
-#![tactic(auto)]
+#![tactic(auto, using(answers::proofs::Laws::outcomes, vecmath::proofs::Loops::loops, tails::proofs::Laws::part_tail, tails::proofs::Laws::tail_back), unfolding(crate::specs::Offset::add_offset, crate::specs::Offset::offset_of))]
 
 ghost use Rattle.std.specs.Prelude.{◌≡◌, [], ◌∷◌, ◌≤◌, length};
 ghost use Rattle.vecmath.specs.Double.{◌!◌};
@@ -9,17 +9,15 @@ ghost use Rattle.answers.specs.Refusal.{Fit};
 ghost use Rattle.answers.specs.Outcome.{tells, of_answer, ◌⨾◌};
 ghost use Rattle.soc_offset.specs.Offset.{add_offset, offset_of, soc_ds_from_dz_offset};
 
-use answers::Answer;
+use answers::Refusal;
 
 // out = out + eta·(ds + kappa·w)
 fn add_offset(out: &mut [f64], eta: f64, ds: &[f64], kappa: f64, w: &[f64])
     requires { (length ds.now ≡ length out.old) × (length w.now ≡ length out.old) }
     ensures { out.new ≡ add_offset out.old eta ds.now kappa w.now }
 {
-    let mut i = 0;
-    while i < out.len() {
-        out[i] = out[i] + eta * (ds[i] + kappa * w[i]);
-        i += 1;
+    for (i, v) in out.iter_mut().enumerate() {
+        *v += eta * (ds[i] + kappa * w[i]);
     }
 }
 
@@ -65,7 +63,7 @@ pub fn soc_ds_from_dz_offset(
     w: &[f64],
     lambda: &[f64],
     eta: &f64,
-) -> Answer
+) -> Result<(), Refusal>
     ensures { tells (of_answer result) (out.new ⨾ tt) ≡ soc_ds_from_dz_offset out.old ds.now z.now
         w.now lambda.now eta.now }
 {
@@ -73,10 +71,7 @@ pub fn soc_ds_from_dz_offset(
         & (z.len() == out.len())
         & (w.len() == out.len())
         & (lambda.len() == out.len());
-    let no = answers::refusal(2, out.len(), same);
-    if no != 0 {
-        return Answer::Refused(no);
-    }
+    answers::check(2, out.len(), same)?;
     ds_from_dz_offset(out, ds, z, w, lambda, *eta);
-    Answer::Done
+    Ok(())
 }

@@ -1,13 +1,13 @@
 // The second-order cone's products with W and its inverse (source document 000, lines 504 to 530): the bare calls, and behind each the
 // kernel that it calls once nothing is refused.
-#![tactic(auto)]
+#![tactic(auto, using(answers::proofs::Laws::outcomes, answers::proofs::Laws::fits), unfolding(crate::specs::Product::mul_w, crate::specs::Product::mul_winv))]
 
 ghost use Rattle.std.specs.Prelude.{◌≡◌, [], ◌∷◌, length};
 ghost use Rattle.answers.specs.Refusal.{Fit};
 ghost use Rattle.answers.specs.Outcome.{tells, of_answer, ◌⨾◌};
 ghost use Rattle.soc_products.specs.Product.{mul_w, mul_winv, soc_mul_w, soc_mul_winv};
 
-use answers::Answer;
+use answers::Refusal;
 
 pub fn mul_w(y: &mut [f64], x: &[f64], alpha: f64, beta: f64, w: &[f64], eta: f64)
     requires { Fit 2 (length y.old) (length x.now ∷ length w.now ∷ []) }
@@ -21,16 +21,20 @@ pub fn mul_w(y: &mut [f64], x: &[f64], alpha: f64, beta: f64, w: &[f64], eta: f6
 }
 
 // y = alpha·W·x + beta·y
-pub fn soc_mul_w(y: &mut [f64], x: &[f64], alpha: f64, beta: f64, w: &[f64], eta: &f64) -> Answer
+pub fn soc_mul_w(
+    y: &mut [f64],
+    x: &[f64],
+    alpha: f64,
+    beta: f64,
+    w: &[f64],
+    eta: &f64,
+) -> Result<(), Refusal>
     ensures { tells (of_answer result) (y.new ⨾ tt)
         ≡ soc_mul_w y.old x.now alpha beta w.now eta.now }
 {
-    let no = answers::refusal(2, y.len(), (x.len() == y.len()) & (w.len() == y.len()));
-    if no != 0 {
-        return Answer::Refused(no);
-    }
+    answers::check(2, y.len(), (x.len() == y.len()) & (w.len() == y.len()))?;
     mul_w(y, x, alpha, beta, w, *eta);
-    Answer::Done
+    Ok(())
 }
 
 pub fn mul_winv(y: &mut [f64], x: &[f64], alpha: f64, beta: f64, w: &[f64], eta: f64)
@@ -45,14 +49,18 @@ pub fn mul_winv(y: &mut [f64], x: &[f64], alpha: f64, beta: f64, w: &[f64], eta:
 }
 
 // y = alpha·W⁻¹·x + beta·y
-pub fn soc_mul_winv(y: &mut [f64], x: &[f64], alpha: f64, beta: f64, w: &[f64], eta: &f64) -> Answer
+pub fn soc_mul_winv(
+    y: &mut [f64],
+    x: &[f64],
+    alpha: f64,
+    beta: f64,
+    w: &[f64],
+    eta: &f64,
+) -> Result<(), Refusal>
     ensures { tells (of_answer result) (y.new ⨾ tt)
         ≡ soc_mul_winv y.old x.now alpha beta w.now eta.now }
 {
-    let no = answers::refusal(2, y.len(), (x.len() == y.len()) & (w.len() == y.len()));
-    if no != 0 {
-        return Answer::Refused(no);
-    }
+    answers::check(2, y.len(), (x.len() == y.len()) & (w.len() == y.len()))?;
     mul_winv(y, x, alpha, beta, w, *eta);
-    Answer::Done
+    Ok(())
 }

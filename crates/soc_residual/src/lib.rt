@@ -1,13 +1,13 @@
 // The second-order cone's residuals and root scale (source document 000, lines 388 to 417): the bare calls, and behind each the kernel
 // that it calls once nothing is refused.
-#![tactic(auto)]
+#![tactic(auto, using(answers::proofs::Laws::outcomes, answers::proofs::Laws::fits), unfolding(crate::specs::Residual::residual, crate::specs::Residual::residual_shifted, crate::specs::Residual::root_scale))]
 
 ghost use Rattle.std.specs.Prelude.{◌≡◌, [], ◌∷◌, length};
 ghost use Rattle.answers.specs.Refusal.{Fit};
 ghost use Rattle.answers.specs.Outcome.{tells, of_number};
 ghost use Rattle.soc_residual.specs.Residual.{residual_of, residual, residual_shifted, root_scale_of, root_scale, soc_residual, soc_residual_shifted, sqrt_soc_residual};
 
-use answers::Number;
+use answers::Refusal;
 
 // Of the first entry and the norm of the rest.
 pub fn residual_of(x0: f64, x1norm: f64) -> f64
@@ -47,32 +47,23 @@ pub fn sqrt_residual(z: &[f64]) -> f64
     root_scale_of(residual(z))
 }
 
-pub fn soc_residual(z: &[f64]) -> Number
+pub fn soc_residual(z: &[f64]) -> Result<f64, Refusal>
     ensures { tells (of_number result) tt ≡ soc_residual z.now }
 {
-    let no = answers::refusal(2, z.len(), true);
-    if no != 0 {
-        return Number::Refused(no);
-    }
-    Number::Is(residual(z))
+    answers::check(2, z.len(), true)?;
+    Ok(residual(z))
 }
 
-pub fn soc_residual_shifted(z: &[f64], dz: &[f64], alpha: f64) -> Number
+pub fn soc_residual_shifted(z: &[f64], dz: &[f64], alpha: f64) -> Result<f64, Refusal>
     ensures { tells (of_number result) tt ≡ soc_residual_shifted z.now dz.now alpha }
 {
-    let no = answers::refusal(2, z.len(), dz.len() == z.len());
-    if no != 0 {
-        return Number::Refused(no);
-    }
-    Number::Is(residual_shifted(z, dz, alpha))
+    answers::check(2, z.len(), dz.len() == z.len())?;
+    Ok(residual_shifted(z, dz, alpha))
 }
 
-pub fn sqrt_soc_residual(z: &[f64]) -> Number
+pub fn sqrt_soc_residual(z: &[f64]) -> Result<f64, Refusal>
     ensures { tells (of_number result) tt ≡ sqrt_soc_residual z.now }
 {
-    let no = answers::refusal(2, z.len(), true);
-    if no != 0 {
-        return Number::Refused(no);
-    }
-    Number::Is(sqrt_residual(z))
+    answers::check(2, z.len(), true)?;
+    Ok(sqrt_residual(z))
 }

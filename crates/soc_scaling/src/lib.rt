@@ -1,13 +1,13 @@
 // The second-order cone's scaling (source document 000, lines 134 to 211): `update_scaling`, which writes nothing where it answers false
 // (document 02, item 4). The bare call, and behind it the kernel that it calls once nothing is refused.
-#![tactic(auto)]
+#![tactic(auto, using(answers::proofs::Laws::outcomes, crate::proofs::Laws::early, crate::proofs::Laws::late, crate::proofs::Laws::scaled))]
 
 ghost use Rattle.std.specs.Prelude.{◌≡◌, [], ◌∷◌, length};
 ghost use Rattle.answers.specs.Refusal.{Fit};
 ghost use Rattle.answers.specs.Outcome.{truth, tells, of_scaling};
 ghost use Rattle.soc_scaling.specs.Scaling.{stored, update_scaling, soc_update_scaling};
 
-use answers::Scaling;
+use answers::Refusal;
 
 pub fn update_scaling(
     s: &[f64],
@@ -54,7 +54,7 @@ pub fn soc_update_scaling(
     v: &mut [f64],
     eta: &mut f64,
     d: &mut f64,
-) -> Scaling
+) -> Result<bool, Refusal>
     ensures { tells (of_scaling result)
         (stored w.new lambda.new u.new v.new eta.new d.new)
         ≡ soc_update_scaling s.now z.now w.old lambda.old u.old v.old
@@ -65,9 +65,6 @@ pub fn soc_update_scaling(
         & (lambda.len() == s.len())
         & (u.len() == s.len())
         & (v.len() == s.len());
-    let no = answers::refusal(2, s.len(), same);
-    if no != 0 {
-        return Scaling::Refused(no);
-    }
-    Scaling::Truth(update_scaling(s, z, w, lambda, u, v, eta, d))
+    answers::check(2, s.len(), same)?;
+    Ok(update_scaling(s, z, w, lambda, u, v, eta, d))
 }

@@ -1,5 +1,5 @@
 // The terms of the second-order cone's sparse expansion (source document 000, lines 187 to 207). The caller has checked the lengths.
-#![tactic(auto)]
+#![tactic(auto, unfolding(crate::specs::Sparse::square_of, crate::specs::Sparse::sparse_d, crate::specs::Sparse::sparse_u, crate::specs::Sparse::sparse_v))]
 
 ghost use Rattle.std.specs.Prelude.{◌≡◌, cond, [], ◌∷◌, length};
 ghost use Rattle.vecmath.specs.Double.{◌⊘◌, 𝟏};

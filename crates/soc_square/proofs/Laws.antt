@@ -1,20 +1,18 @@
--- Laws of the square block: against the packed numbers, and what a refusal's number says. Assumes nothing.
+-- Laws of the square block: against the packed numbers. Assumes nothing.
 use Prim.Native.Nat.{ℕ, ◌+◌, ◌*◌, ◌/◌, ◌≤◌, ◌<◌}
 use native.Mathlib.Omega.{arith}
 use native.Mathlib.Nat.{eq-or-lt_of_le}
 use mathlib.Core.Logic.{◌⊎◌, ⊎_elim}
-use mathlib.Core.Path.{◌≡◌, refl, sym, ◌∙◌}
-use mathlib.Core.Bool.{Bool, true, false, cond, ◌&&◌, and-false}
+use mathlib.Core.Path.{◌≡◌, sym, ◌∙◌}
+use mathlib.Core.Bool.{cond, and-false}
 use mathlib.Core.List.{List, []}
-use borrow.Author.Tests.{ltb-true, lt-ltb, le-ltb}
+use borrow.Author.Tests.{lt-ltb, le-ltb}
 use lib.Dec.{ltb}
 use lib.ListN.{length, get_or}
 use lib.Ieee.{Float, nan}
 use Rattle.vecmath.specs.Double.{𝟎, ◌!◌}
 use Rattle.vecmath.specs.Vector.{each}
 use Rattle.vecmath.proofs.Loops.{each_at}
-use Rattle.answers.proofs.Laws.{refused}
-use Rattle.answers.specs.Outcome.{no_matrix, as_squared, call_of}
 use Rattle.soc_blocks.specs.Block.{dense_entry, hs_of}
 use Rattle.soc_square.specs.Square.{square_entry, square_hs}
 use Rattle.soc_blocks.proofs.Laws.{packed_at}
@@ -50,23 +48,3 @@ module _ (w : List Float) (η : Float) where
       (λ (o : length w ≤ row). rw (le-ltb row (length w) o))
       (λ (o : length w ≤ col). rw (le-ltb col (length w) o, and-false (ltb row (length w))))
       out
-
--- what a test of both says
-pub both_below : (a b n : ℕ) → ltb a n && ltb b n ≡ true → (a < n) × (b < n)
-both_below a b n e = go (ltb a n) (ltb b n) refl refl e
-  where
-    go : (s t : Bool) → ltb a n ≡ s → ltb b n ≡ t → s && t ≡ true → (a < n) × (b < n)
-    go true true h h' e = (ltb-true a n h, ltb-true b n h')
-    go true false h h' e = let z : ◌≡◌ {A = ℕ} 0 1 = cc in absurd (omega arith)
-    go false t h h' e = let z : ◌≡◌ {A = ℕ} 0 1 = cc in absurd (omega arith)
-
--- ---- refusals
-
--- what a call for the square matrix comes to that computed its refusal's number k
-module _ {B : Type 0} {n k : ℕ} (matrix : List (List Float)) (old new : B) where
-  pub square_refused : k ≡ n → (k ≡ 0 → ⊥) → record { refusal = k; matrix = no_matrix } ≡ as_squared (call_of n matrix old new).ruling
-  square_refused e h = rw (← refused matrix old new e h)
-
-  pub square_given : {rows : List (List Float)} → k ≡ n → k ≡ 0 → rows ≡ matrix → record { refusal = 0; matrix = rows } ≡ as_squared (call_of n matrix old new).ruling
-  unfolding call_of
-  square_given e z g = rw (g, ← e, z)

@@ -1,13 +1,13 @@
 // The second-order cone's block Hs as a square matrix (document 01, "Forms by place"; source document 000, lines 217 to 246): the bare
 // call, and behind it the kernel that it calls once nothing is refused.
-#![tactic(auto)]
+#![tactic(auto, using(answers::proofs::Laws::outcomes), unfolding(vecmath::specs::Vector::each, crate::specs::Square::square_entry, crate::specs::Square::square_hs))]
 
 ghost use Rattle.std.specs.Prelude.{◌≡◌, map, ◌*◌, ◌<◌};
 ghost use Rattle.vecmath.specs.Vector.{each};
-ghost use Rattle.answers.specs.Outcome.{as_squared, of_square, no_matrix};
+ghost use Rattle.answers.specs.Outcome.{tells, of_rows, of_square, as_squared};
 ghost use Rattle.soc_square.specs.Square.{square_entry, square_hs, soc_square_hs};
 
-use answers::{Row, Square};
+use answers::{Refusal, Row, Square};
 
 // An entry of the square matrix: of either triangle, or beyond the dimension.
 fn square_entry(w: &[f64], eta: f64, row: usize, col: usize) -> f64
@@ -44,26 +44,16 @@ pub fn square_hs(w: &[f64], eta: f64) -> [Row; 4]
     [r0, r1, r2, r3]
 }
 
-// A refusal's number beside a matrix of zeros.
-pub fn no_square(no: u8) -> Square
-    ensures { of_square result ≡ record { refusal = no; matrix = no_matrix } }
+fn checked_square_hs(w: &[f64], eta: f64) -> Result<[Row; 4], Refusal>
+    ensures { tells (of_rows result) tt ≡ soc_square_hs w.now eta }
 {
-    let row = Row { entries: [0.0; 4] };
-    Square { no, rows: [row; 4] }
+    answers::check_dimension(2, w.len())?;
+    answers::check_dense(w.len())?;
+    Ok(square_hs(w, eta))
 }
 
 pub fn soc_square_hs(w: &[f64], eta: &f64) -> Square
     ensures { of_square result ≡ as_squared (soc_square_hs w.now eta.now).ruling }
 {
-    let no = answers::first_refusal(
-        answers::dimension_refusal(2, w.len()),
-        answers::dense_refusal(w.len()),
-    );
-    if no != 0 {
-        return no_square(no);
-    }
-    Square {
-        no: 0,
-        rows: square_hs(w, *eta),
-    }
+    Square::from(checked_square_hs(w, *eta))
 }

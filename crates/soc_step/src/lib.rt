@@ -1,14 +1,14 @@
 // The second-order cone's step (source document 000, lines 289 to 302 and 421 to 495), mended along a direction of residual 0 (document 02,
 // item 3): the bare calls, and behind them the kernel.
-#![tactic(auto)]
+#![tactic(auto, using(answers::proofs::Laws::outcomes, answers::proofs::Laws::fits), unfolding(crate::specs::Step::forward, crate::specs::Step::turn, crate::specs::Step::lowered, crate::specs::Step::roots, crate::specs::Step::zero_curvature, crate::specs::Step::branches, crate::specs::Step::soc_step_by))]
 
 ghost use Rattle.std.specs.Prelude.{◌≡◌, [], ◌∷◌, length};
 ghost use Rattle.extrema.specs.Extrema.{least_of};
 ghost use Rattle.answers.specs.Refusal.{Fit};
-ghost use Rattle.answers.specs.Outcome.{tells, of_step, of_steps};
+ghost use Rattle.answers.specs.Outcome.{tells, of_number, of_steps};
 ghost use Rattle.soc_step.specs.Step.{forward, turn, lowered, roots, branches, step_along, soc_step, soc_step_length};
 
-use answers::{Step, StepPair, Steps};
+use answers::{Refusal, StepPair};
 
 // A root below 0 is none.
 fn forward(r: f64) -> f64
@@ -88,28 +88,28 @@ pub fn step_length(dz: &[f64], ds: &[f64], z: &[f64], s: &[f64], limit: f64) -> 
 }
 
 // The step of one side: of x along y, of at most limit.
-pub fn soc_step(x: &[f64], y: &[f64], limit: f64) -> Step
-    ensures { tells (of_step result) tt ≡ soc_step x.now y.now limit }
+pub fn soc_step(x: &[f64], y: &[f64], limit: f64) -> Result<f64, Refusal>
+    ensures { tells (of_number result) tt ≡ soc_step x.now y.now limit }
 {
-    let no = answers::step_refusal(2, x.len(), y.len() == x.len(), limit);
-    if no != 0 {
-        return Step::Refused(no);
-    }
-    Step::Length(step(x, y, limit))
+    answers::check_step(2, x.len(), y.len() == x.len(), limit)?;
+    Ok(step(x, y, limit))
 }
 
 // The pair of steps: z along dz, and s along ds.
-pub fn soc_step_length(dz: &[f64], ds: &[f64], z: &[f64], s: &[f64], limit: f64) -> Steps
+pub fn soc_step_length(
+    dz: &[f64],
+    ds: &[f64],
+    z: &[f64],
+    s: &[f64],
+    limit: f64,
+) -> Result<StepPair, Refusal>
     ensures { tells (of_steps result) tt ≡ soc_step_length dz.now ds.now z.now s.now limit }
 {
-    let no = answers::step_refusal(
+    answers::check_step(
         2,
         dz.len(),
         (ds.len() == dz.len()) & (z.len() == dz.len()) & (s.len() == dz.len()),
         limit,
-    );
-    if no != 0 {
-        return Steps::Refused(no);
-    }
-    Steps::Lengths(step_length(dz, ds, z, s, limit))
+    )?;
+    Ok(step_length(dz, ds, z, s, limit))
 }

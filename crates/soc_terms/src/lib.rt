@@ -1,7 +1,7 @@
 // What a scaling of the second-order cone computes (source document 000, lines 158 to 184): the vector w and its norming, and the scaling
 // point lambda. The root scale of w is found before w is written, so that a late false changes nothing (document 02, item 4). The caller
 // has checked the lengths.
-#![tactic(auto)]
+#![tactic(auto, using(crate::proofs::Laws::scale_of_point), unfolding(crate::specs::Terms::point_of, crate::specs::Terms::normed_of, crate::specs::Terms::lambda_of))]
 
 ghost use Rattle.std.specs.Prelude.{◌≡◌, [], ◌∷◌, length};
 ghost use Rattle.vecmath.specs.Vector.{sumsq};

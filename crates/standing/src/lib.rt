@@ -1,6 +1,6 @@
 // Where a point stands towards its cone (document 01, "Standing"; ours, beside `update_scaling`, whose answer stays as ported): the bare
 // calls of both kinds, and behind each the kernel that it calls once nothing is refused.
-#![tactic(auto)]
+#![tactic(auto, using(answers::proofs::Laws::outcomes, answers::proofs::Laws::fits, extrema::proofs::Laws::ne_self, vecmath::proofs::Loops::loops), unfolding(crate::specs::Standing::soc_standing, crate::specs::Standing::some, crate::specs::Standing::nonneg_standing))]
 
 ghost use Rattle.std.specs.Prelude.{◌≡◌, [], length};
 ghost use Rattle.std.specs.Float.Ieee.{is_nan, lt, eq};
@@ -9,7 +9,7 @@ ghost use Rattle.answers.specs.Refusal.{Fit};
 ghost use Rattle.answers.specs.Outcome.{tells, of_stands};
 ghost use Rattle.standing.specs.Standing.{some, soc_standing, nonneg_standing, soc_stands, nn_stands};
 
-use answers::{Standing, Stands};
+use answers::{Refusal, Standing};
 
 pub fn second_order(z: &[f64]) -> Standing
     requires { Fit 2 (length z.now) [] }
@@ -48,12 +48,10 @@ fn present(z: &[f64]) -> Found
     let mut nan = false;
     let mut below = false;
     let mut zero = false;
-    let mut i = 0;
-    while i < z.len() {
-        nan = nan | (z[i] != z[i]);
-        below = below | (z[i] < 0.0);
-        zero = zero | (z[i] == 0.0);
-        i += 1;
+    for &x in z {
+        nan |= x != x;
+        below |= x < 0.0;
+        zero |= x == 0.0;
     }
     Found { nan, below, zero }
 }
@@ -75,22 +73,16 @@ pub fn nonnegative(z: &[f64]) -> Standing
     }
 }
 
-pub fn soc_standing(z: &[f64]) -> Stands
+pub fn soc_standing(z: &[f64]) -> Result<Standing, Refusal>
     ensures { tells (of_stands result) tt ≡ soc_stands z.now }
 {
-    let no = answers::refusal(2, z.len(), true);
-    if no != 0 {
-        return Stands::Refused(no);
-    }
-    Stands::As(second_order(z))
+    answers::check(2, z.len(), true)?;
+    Ok(second_order(z))
 }
 
-pub fn nn_standing(z: &[f64]) -> Stands
+pub fn nn_standing(z: &[f64]) -> Result<Standing, Refusal>
     ensures { tells (of_stands result) tt ≡ nn_stands z.now }
 {
-    let no = answers::refusal(0, z.len(), true);
-    if no != 0 {
-        return Stands::Refused(no);
-    }
-    Stands::As(nonnegative(z))
+    answers::check(0, z.len(), true)?;
+    Ok(nonnegative(z))
 }

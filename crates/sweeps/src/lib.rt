@@ -1,6 +1,6 @@
 // What bench/ calls of a cone of a list over its place, exported to C: mul_w and update_scaling. A place is eight numbers: the cone's index,
 // start, kind and dimension, where its block begins, and how many entries, cones and block numbers the list has. Of our own; nothing is ported.
-#![tactic(auto)]
+#![tactic(auto, unfolding(crate::specs::Numbers::place_by))]
 
 ghost use Rattle.std.specs.Prelude.{◌≡◌, [], ◌∷◌};
 ghost use Rattle.answers.specs.Outcome.{◌⨾◌};

@@ -12,10 +12,8 @@ fn twice(y: &mut [f64], a: f64, x: &[f64], b: f64, c: f64, z: &[f64])
     requires { (length x.now ≡ length y.old) × (length z.now ≡ length y.old) }
     ensures { y.new ≡ axpby c z.now 𝟏 (axpby a x.now b y.old) }
 {
-    let mut i = 0;
-    while i < y.len() {
-        y[i] = c * z[i] + 1.0 * (a * x[i] + b * y[i]);
-        i += 1;
+    for (i, v) in y.iter_mut().enumerate() {
+        *v = c * z[i] + 1.0 * (a * x[i] + b * *v);
     }
 }
 

@@ -9,10 +9,8 @@ pub fn axpby(y: &mut [f64], a: f64, x: &[f64], b: f64)
     requires { length x.now ≡ length y.old }
     ensures { y.new ≡ axpby a x.now b y.old }
 {
-    let mut i = 0;
-    while i < y.len() {
-        y[i] = a * x[i] + b * y[i];
-        i += 1;
+    for (i, v) in y.iter_mut().enumerate() {
+        *v = a * x[i] + b * *v;
     }
 }
 
@@ -21,9 +19,7 @@ pub fn waxpby(w: &mut [f64], a: f64, x: &[f64], b: f64, y: &[f64])
     requires { (length x.now ≡ length w.old) × (length y.now ≡ length w.old) }
     ensures { w.new ≡ axpby a x.now b y.now }
 {
-    let mut i = 0;
-    while i < w.len() {
-        w[i] = a * x[i] + b * y[i];
-        i += 1;
+    for (i, v) in w.iter_mut().enumerate() {
+        *v = a * x[i] + b * y[i];
     }
 }

@@ -8,10 +8,8 @@ ghost use Rattle.vecmath.specs.Vector.{scale_of, translate};
 pub fn scale(y: &mut [f64], a: f64)
     ensures { y.new ≡ scale_of a y.old }
 {
-    let mut i = 0;
-    while i < y.len() {
-        y[i] = a * y[i];
-        i += 1;
+    for v in y.iter_mut() {
+        *v = a * *v;
     }
 }
 
@@ -19,9 +17,7 @@ pub fn scale(y: &mut [f64], a: f64)
 pub fn translate(y: &mut [f64], a: f64)
     ensures { y.new ≡ translate a y.old }
 {
-    let mut i = 0;
-    while i < y.len() {
-        y[i] = y[i] + a;
-        i += 1;
+    for v in y.iter_mut() {
+        *v += a;
     }
 }

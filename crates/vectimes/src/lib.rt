@@ -9,10 +9,8 @@ pub fn multiply(x: &mut [f64], y: &[f64], z: &[f64])
     requires { (length y.now ≡ length x.old) × (length z.now ≡ length x.old) }
     ensures { x.new ≡ products y.now z.now }
 {
-    let mut i = 0;
-    while i < x.len() {
-        x[i] = y[i] * z[i];
-        i += 1;
+    for (i, v) in x.iter_mut().enumerate() {
+        *v = y[i] * z[i];
     }
 }
 
@@ -21,9 +19,7 @@ pub fn divide(x: &mut [f64], y: &[f64], z: &[f64])
     requires { (length y.now ≡ length x.old) × (length z.now ≡ length x.old) }
     ensures { x.new ≡ quotients z.now y.now }
 {
-    let mut i = 0;
-    while i < x.len() {
-        x[i] = z[i] / y[i];
-        i += 1;
+    for (i, v) in x.iter_mut().enumerate() {
+        *v = z[i] / y[i];
     }
 }

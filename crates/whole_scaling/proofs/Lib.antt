@@ -1,5 +1,4 @@
--- `Laws`: a turn of the walk. `Walked`: the walk comes to the single calls. `Unique`: the contract leaves one result. `Worked`: lines, computed.
-pub mod Laws
+-- `Walked`: the walk comes to the single calls. `Unique`: the contract leaves one result. `Worked`: lines, computed.
 pub mod Walked
 pub mod Unique
 pub mod Worked

@@ -1,3 +1,2 @@
--- `List`: the call. `Walk`: how the code goes over the records.
+-- `List`: the call.
 pub mod List
-pub mod Walk

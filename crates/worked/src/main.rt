@@ -3,128 +3,116 @@
 // lines that document 01 marks with T are proved too: proofs/Worked.antt.
 #![tactic(auto)]
 
-use answers::{Answer, Number, Scaling, Standing, Stands, Step};
+use answers::Refusal;
 use std::io;
 use std::io::{BufWriter, Write};
 
-fn line_root<W: Write>(out: &mut W, of: &[u8], x: f64) -> io::Result<()> {
-    show::label(out, of)?;
-    show::number(out, root::sqrt(x))?;
-    show::newline(out)
+// What is asked, and the double that the code gives.
+fn line<W: Write>(out: &mut W, of: &str, x: f64) -> io::Result<()> {
+    writeln!(out, "{of:<40}{}", show::spell(x))
 }
 
-fn line_least<W: Write>(out: &mut W, of: &[u8], a: f64, b: f64) -> io::Result<()> {
-    show::label(out, of)?;
-    show::number(out, extrema::least(a, b))?;
-    show::newline(out)
-}
-
-fn line_greatest<W: Write>(out: &mut W, of: &[u8], a: f64, b: f64) -> io::Result<()> {
-    show::label(out, of)?;
-    show::number(out, extrema::greatest(a, b))?;
-    show::newline(out)
+// What a call answers: its value, told in its own way, or the refusal.
+fn answer<W: Write, T, F: FnOnce(&mut W, T) -> io::Result<()>>(
+    out: &mut W,
+    came: Result<T, Refusal>,
+    tell: F,
+) -> io::Result<()>
+    requires { F.IsAlwaysCallable tell }
+{
+    match came {
+        Ok(value) => tell(out, value),
+        Err(refusal) => write!(out, "{refusal}"),
+    }
 }
 
 fn roots<W: Write>(out: &mut W) -> io::Result<()> {
-    line_root(out, b"root of +0", 0.0)?;
-    line_root(out, b"root of -0", -0.0)?;
-    line_root(out, b"root of 2", 2.0)?;
-    line_root(out, b"root of 2^-1074", 5e-324)?;
-    line_root(out, b"root of the largest finite", 1.7976931348623157e308)?;
-    line_root(out, b"root of infinity", 1.0 / 0.0)?;
-    line_root(out, b"root of -1", -1.0)?;
-    line_root(out, b"root of NaN", 0.0 / 0.0)?;
+    line(out, "root of +0", root::sqrt(0.0))?;
+    line(out, "root of -0", root::sqrt(-0.0))?;
+    line(out, "root of 2", root::sqrt(2.0))?;
+    line(out, "root of 2^-1074", root::sqrt(5e-324))?;
+    line(
+        out,
+        "root of the largest finite",
+        root::sqrt(1.7976931348623157e308),
+    )?;
+    line(out, "root of infinity", root::sqrt(1.0 / 0.0))?;
+    line(out, "root of -1", root::sqrt(-1.0))?;
+    line(out, "root of NaN", root::sqrt(0.0 / 0.0))?;
     // of our own: the guess of its digits is wrong, so they are found one by one
-    line_root(out, b"root of 1061318", 1061318.0)
+    line(out, "root of 1061318", root::sqrt(1061318.0))
 }
 
 fn leasts<W: Write>(out: &mut W) -> io::Result<()> {
-    line_least(out, b"least of 1, 2", 1.0, 2.0)?;
-    line_least(out, b"least of 2, 1", 2.0, 1.0)?;
-    line_least(out, b"least of +0, -0", 0.0, -0.0)?;
-    line_least(out, b"least of -0, +0", -0.0, 0.0)?;
-    line_least(out, b"least of NaN, 1", 0.0 / 0.0, 1.0)?;
-    line_least(out, b"least of 1, NaN", 1.0, 0.0 / 0.0)?;
-    line_least(out, b"least of NaN, NaN", 0.0 / 0.0, 0.0 / 0.0)
+    line(out, "least of 1, 2", extrema::least(1.0, 2.0))?;
+    line(out, "least of 2, 1", extrema::least(2.0, 1.0))?;
+    line(out, "least of +0, -0", extrema::least(0.0, -0.0))?;
+    line(out, "least of -0, +0", extrema::least(-0.0, 0.0))?;
+    line(out, "least of NaN, 1", extrema::least(0.0 / 0.0, 1.0))?;
+    line(out, "least of 1, NaN", extrema::least(1.0, 0.0 / 0.0))?;
+    line(
+        out,
+        "least of NaN, NaN",
+        extrema::least(0.0 / 0.0, 0.0 / 0.0),
+    )
 }
 
 fn greatests<W: Write>(out: &mut W) -> io::Result<()> {
-    line_greatest(out, b"greatest of 1, 2", 1.0, 2.0)?;
-    line_greatest(out, b"greatest of 2, 1", 2.0, 1.0)?;
-    line_greatest(out, b"greatest of +0, -0", 0.0, -0.0)?;
-    line_greatest(out, b"greatest of -0, +0", -0.0, 0.0)?;
-    line_greatest(out, b"greatest of NaN, 1", 0.0 / 0.0, 1.0)?;
-    line_greatest(out, b"greatest of 1, NaN", 1.0, 0.0 / 0.0)?;
-    line_greatest(out, b"greatest of NaN, NaN", 0.0 / 0.0, 0.0 / 0.0)
+    line(out, "greatest of 1, 2", extrema::greatest(1.0, 2.0))?;
+    line(out, "greatest of 2, 1", extrema::greatest(2.0, 1.0))?;
+    line(out, "greatest of +0, -0", extrema::greatest(0.0, -0.0))?;
+    line(out, "greatest of -0, +0", extrema::greatest(-0.0, 0.0))?;
+    line(out, "greatest of NaN, 1", extrema::greatest(0.0 / 0.0, 1.0))?;
+    line(out, "greatest of 1, NaN", extrema::greatest(1.0, 0.0 / 0.0))?;
+    line(
+        out,
+        "greatest of NaN, NaN",
+        extrema::greatest(0.0 / 0.0, 0.0 / 0.0),
+    )
 }
 
 fn space_number<W: Write>(out: &mut W, x: f64) -> io::Result<()> {
-    show::text(out, b" ")?;
-    show::number(out, x)
+    write!(out, " {}", show::spell(x))
 }
 
 // The entries, in parentheses.
 fn vector<W: Write>(out: &mut W, x: &[f64]) -> io::Result<()> {
-    show::text(out, b" (")?;
+    write!(out, " (")?;
     for (i, entry) in x.iter().enumerate() {
         if 0 < i {
-            show::text(out, b", ")?;
+            write!(out, ", ")?;
         }
-        show::number(out, *entry)?;
+        write!(out, "{}", show::spell(*entry))?;
     }
-    show::text(out, b")")
-}
-
-fn standing<W: Write>(out: &mut W, x: Standing) -> io::Result<()> {
-    match x {
-        Standing::Inside => show::text(out, b"Inside"),
-        Standing::Edge => show::text(out, b"Edge"),
-        Standing::Outside => show::text(out, b"Outside"),
-        Standing::Mirrored => show::text(out, b"Mirrored"),
-        Standing::NotNumber => show::text(out, b"NotNumber"),
-    }
-}
-
-fn stands<W: Write>(out: &mut W, came: Stands) -> io::Result<()> {
-    match came {
-        Stands::As(x) => standing(out, x),
-        Stands::Refused(no) => show::refused(out, no),
-    }
-}
-
-fn number<W: Write>(out: &mut W, came: Number) -> io::Result<()> {
-    match came {
-        Number::Is(r) => show::number(out, r),
-        Number::Refused(no) => show::refused(out, no),
-    }
+    write!(out, ")")
 }
 
 // The residual, and where the point stands.
-fn line_residual<W: Write>(out: &mut W, of: &[u8], z: &[f64]) -> io::Result<()> {
-    show::label(out, of)?;
-    number(out, soc_residual::soc_residual(z))?;
-    show::text(out, b" ")?;
-    stands(out, standing::soc_standing(z))?;
-    show::newline(out)
+fn line_residual<W: Write>(out: &mut W, of: &str, z: &[f64]) -> io::Result<()> {
+    write!(out, "{of:<40}")?;
+    answer(
+        out,
+        soc_residual::soc_residual(z),
+        |out, r| write!(out, "{}", show::spell(r)),
+    )?;
+    write!(out, " ")?;
+    answer(
+        out,
+        standing::soc_standing(z),
+        |out, x| write!(out, "{x:?}"),
+    )?;
+    writeln!(out)
 }
 
-fn line_nn_standing<W: Write>(out: &mut W, of: &[u8], z: &[f64]) -> io::Result<()> {
-    show::label(out, of)?;
-    stands(out, standing::nn_standing(z))?;
-    show::newline(out)
-}
-
-fn truth<W: Write>(out: &mut W, came: Scaling) -> io::Result<()> {
-    match came {
-        Scaling::Truth(true) => show::text(out, b"true"),
-        Scaling::Truth(false) => show::text(out, b"false"),
-        Scaling::Refused(no) => show::refused(out, no),
-    }
+fn line_nn_standing<W: Write>(out: &mut W, of: &str, z: &[f64]) -> io::Result<()> {
+    write!(out, "{of:<40}")?;
+    answer(out, standing::nn_standing(z), |out, x| write!(out, "{x:?}"))?;
+    writeln!(out)
 }
 
 // The answer; then eta, w, which was (9, 9), and lambda, which was (7, 7).
-fn line_scaling<W: Write>(out: &mut W, of: &[u8], s: &[f64], z: &[f64]) -> io::Result<()> {
-    show::label(out, of)?;
+fn line_scaling<W: Write>(out: &mut W, of: &str, s: &[f64], z: &[f64]) -> io::Result<()> {
+    write!(out, "{of:<40}")?;
     let mut w = [9.0; 2];
     let mut lambda = [7.0; 2];
     let mut u = [5.0; 2];
@@ -141,261 +129,190 @@ fn line_scaling<W: Write>(out: &mut W, of: &[u8], s: &[f64], z: &[f64]) -> io::R
         &mut eta,
         &mut d,
     );
-    truth(out, came)?;
+    answer(out, came, |out, t| write!(out, "{t}"))?;
     space_number(out, eta)?;
     vector(out, &w)?;
     vector(out, &lambda)?;
-    show::newline(out)
+    writeln!(out)
 }
 
-fn step<W: Write>(out: &mut W, came: Step) -> io::Result<()> {
-    match came {
-        Step::Length(a) => show::number(out, a)?,
-        Step::Refused(no) => show::refused(out, no)?,
-    }
-    show::newline(out)
-}
-
-fn line_nn_step<W: Write>(
-    out: &mut W,
-    of: &[u8],
-    x: &[f64],
-    y: &[f64],
-    limit: f64,
-) -> io::Result<()> {
-    show::label(out, of)?;
-    step(out, nn_step::nn_step(x, y, limit))
-}
-
-fn line_soc_step<W: Write>(
-    out: &mut W,
-    of: &[u8],
-    x: &[f64],
-    y: &[f64],
-    limit: f64,
-) -> io::Result<()> {
-    show::label(out, of)?;
-    step(out, soc_step::soc_step(x, y, limit))
+fn line_step<W: Write>(out: &mut W, of: &str, came: Result<f64, Refusal>) -> io::Result<()> {
+    write!(out, "{of:<40}")?;
+    answer(out, came, |out, a| write!(out, "{}", show::spell(a)))?;
+    writeln!(out)
 }
 
 // Identity scaling: d is set to a half where the cone is sparse, and stays 1 where it is dense.
 fn line_identity<W: Write>(
     out: &mut W,
-    of: &[u8],
+    of: &str,
     w: &mut [f64],
     u: &mut [f64],
     v: &mut [f64],
 ) -> io::Result<()> {
-    show::label(out, of)?;
+    write!(out, "{of:<40}")?;
     let mut eta = 0.0;
     let mut d = 1.0;
-    match soc_identity::soc_set_identity_scaling(w, u, v, &mut eta, &mut d) {
-        Answer::Done => show::text(out, b"done")?,
-        Answer::Refused(no) => show::refused(out, no)?,
-    }
+    let came = soc_identity::soc_set_identity_scaling(w, u, v, &mut eta, &mut d);
+    answer(out, came, |out, ()| write!(out, "done"))?;
     space_number(out, eta)?;
     space_number(out, d)?;
-    show::newline(out)
-}
-
-// The lines are told by numbers: the arrays that they are lent as are made in one place.
-fn residual<W: Write>(out: &mut W, of: &[u8], a: f64, b: f64) -> io::Result<()> {
-    line_residual(out, of, &[a, b])
+    writeln!(out)
 }
 
 fn residuals<W: Write>(out: &mut W) -> io::Result<()> {
-    residual(out, b"residual of (-2, 0)", -2.0, 0.0)?;
-    residual(out, b"residual of (5, 3)", 5.0, 3.0)?;
-    residual(out, b"residual of (3, -3)", 3.0, -3.0)?;
-    residual(out, b"residual of (1, 3)", 1.0, 3.0)?;
-    residual(out, b"residual of (1, NaN)", 1.0, 0.0 / 0.0)?;
-    line_residual(out, b"residual of (1)", &[1.0])
-}
-
-fn nn_standing<W: Write>(out: &mut W, of: &[u8], a: f64, b: f64) -> io::Result<()> {
-    line_nn_standing(out, of, &[a, b])
+    line_residual(out, "residual of (-2, 0)", &[-2.0, 0.0])?;
+    line_residual(out, "residual of (5, 3)", &[5.0, 3.0])?;
+    line_residual(out, "residual of (3, -3)", &[3.0, -3.0])?;
+    line_residual(out, "residual of (1, 3)", &[1.0, 3.0])?;
+    line_residual(out, "residual of (1, NaN)", &[1.0, 0.0 / 0.0])?;
+    line_residual(out, "residual of (1)", &[1.0])
 }
 
 fn standings<W: Write>(out: &mut W) -> io::Result<()> {
-    nn_standing(out, b"standing of (1, 2)", 1.0, 2.0)?;
-    nn_standing(out, b"standing of (1, -0)", 1.0, -0.0)?;
-    nn_standing(out, b"standing of (0, -1)", 0.0, -1.0)?;
-    nn_standing(out, b"standing of (-1, NaN)", -1.0, 0.0 / 0.0)
-}
-
-fn scaling<W: Write>(out: &mut W, of: &[u8], s0: f64, s1: f64, z0: f64, z1: f64) -> io::Result<()> {
-    line_scaling(out, of, &[s0, s1], &[z0, z1])
+    line_nn_standing(out, "standing of (1, 2)", &[1.0, 2.0])?;
+    line_nn_standing(out, "standing of (1, -0)", &[1.0, -0.0])?;
+    line_nn_standing(out, "standing of (0, -1)", &[0.0, -1.0])?;
+    line_nn_standing(out, "standing of (-1, NaN)", &[-1.0, 0.0 / 0.0])
 }
 
 fn scalings<W: Write>(out: &mut W) -> io::Result<()> {
-    scaling(out, b"scale s (5, 3), z (5, -3)", 5.0, 3.0, 5.0, -3.0)?;
-    scaling(out, b"scale s (2, 0), z (-2, 0)", 2.0, 0.0, -2.0, 0.0)?;
-    scaling(out, b"scale s = z = (-2, 0)", -2.0, 0.0, -2.0, 0.0)?;
-    scaling(out, b"scale s (1, 1), z (5, -3)", 1.0, 1.0, 5.0, -3.0)?;
+    line_scaling(out, "scale s (5, 3), z (5, -3)", &[5.0, 3.0], &[5.0, -3.0])?;
+    line_scaling(out, "scale s (2, 0), z (-2, 0)", &[2.0, 0.0], &[-2.0, 0.0])?;
+    line_scaling(out, "scale s = z = (-2, 0)", &[-2.0, 0.0], &[-2.0, 0.0])?;
+    line_scaling(out, "scale s (1, 1), z (5, -3)", &[1.0, 1.0], &[5.0, -3.0])?;
     line_scaling(
         out,
-        b"scale s (5, 3, 0), z (5, -3)",
+        "scale s (5, 3, 0), z (5, -3)",
         &[5.0, 3.0, 0.0],
         &[5.0, -3.0],
     )
 }
 
-fn nn_step<W: Write>(out: &mut W, of: &[u8], x: f64, y: f64, limit: f64) -> io::Result<()> {
-    line_nn_step(out, of, &[x], &[y], limit)
-}
-
 fn nonnegative_steps<W: Write>(out: &mut W) -> io::Result<()> {
-    line_nn_step(
+    line_step(
         out,
-        b"(4, 1, 9) along (-1, 2, -3), limit 10",
-        &[4.0, 1.0, 9.0],
-        &[-1.0, 2.0, -3.0],
-        10.0,
+        "(4, 1, 9) along (-1, 2, -3), limit 10",
+        nn_step::nn_step(&[4.0, 1.0, 9.0], &[-1.0, 2.0, -3.0], 10.0),
     )?;
-    nn_step(out, b"(NaN) along (-1), limit 1", 0.0 / 0.0, -1.0, 1.0)?;
-    nn_step(out, b"(-1) along (-1), limit 1", -1.0, -1.0, 1.0)?;
-    nn_step(out, b"(1) along (0), limit infinity", 1.0, 0.0, 1.0 / 0.0)?;
-    line_nn_step(
+    line_step(
         out,
-        b"(1) along (-1, 1), limit NaN",
-        &[1.0],
-        &[-1.0, 1.0],
-        0.0 / 0.0,
+        "(NaN) along (-1), limit 1",
+        nn_step::nn_step(&[0.0 / 0.0], &[-1.0], 1.0),
+    )?;
+    line_step(
+        out,
+        "(-1) along (-1), limit 1",
+        nn_step::nn_step(&[-1.0], &[-1.0], 1.0),
+    )?;
+    line_step(
+        out,
+        "(1) along (0), limit infinity",
+        nn_step::nn_step(&[1.0], &[0.0], 1.0 / 0.0),
+    )?;
+    line_step(
+        out,
+        "(1) along (-1, 1), limit NaN",
+        nn_step::nn_step(&[1.0], &[-1.0, 1.0], 0.0 / 0.0),
     )
 }
 
-fn soc_step<W: Write>(
-    out: &mut W,
-    of: &[u8],
-    x0: f64,
-    x1: f64,
-    y0: f64,
-    y1: f64,
-    limit: f64,
-) -> io::Result<()> {
-    line_soc_step(out, of, &[x0, x1], &[y0, y1], limit)
-}
-
 fn second_order_steps<W: Write>(out: &mut W) -> io::Result<()> {
-    soc_step(
+    line_step(
         out,
-        b"(5, 0) along (0, 1), limit 10",
-        5.0,
-        0.0,
-        0.0,
-        1.0,
-        10.0,
+        "(5, 0) along (0, 1), limit 10",
+        soc_step::soc_step(&[5.0, 0.0], &[0.0, 1.0], 10.0),
     )?;
-    soc_step(
+    line_step(
         out,
-        b"(1, 0) along (-1, 1), limit 1",
-        1.0,
-        0.0,
-        -1.0,
-        1.0,
-        1.0,
+        "(1, 0) along (-1, 1), limit 1",
+        soc_step::soc_step(&[1.0, 0.0], &[-1.0, 1.0], 1.0),
     )?;
-    soc_step(
+    line_step(
         out,
-        b"(1, 0) along (-1, 1), limit 1/4",
-        1.0,
-        0.0,
-        -1.0,
-        1.0,
-        0.25,
+        "(1, 0) along (-1, 1), limit 1/4",
+        soc_step::soc_step(&[1.0, 0.0], &[-1.0, 1.0], 0.25),
     )?;
-    soc_step(
+    line_step(
         out,
-        b"(1e200, 0) along (-1, 1), limit 2e200",
-        1e200,
-        0.0,
-        -1.0,
-        1.0,
-        2e200,
+        "(1e200, 0) along (-1, 1), limit 2e200",
+        soc_step::soc_step(&[1e200, 0.0], &[-1.0, 1.0], 2e200),
     )?;
-    soc_step(
+    line_step(
         out,
-        b"(1, 1) along (0, -1), limit 1",
-        1.0,
-        1.0,
-        0.0,
-        -1.0,
-        1.0,
+        "(1, 1) along (0, -1), limit 1",
+        soc_step::soc_step(&[1.0, 1.0], &[0.0, -1.0], 1.0),
     )?;
-    soc_step(
+    line_step(
         out,
-        b"(1, 2) along (0, 0), limit 7",
-        1.0,
-        2.0,
-        0.0,
-        0.0,
-        7.0,
+        "(1, 2) along (0, 0), limit 7",
+        soc_step::soc_step(&[1.0, 2.0], &[0.0, 0.0], 7.0),
     )?;
-    soc_step(
+    line_step(
         out,
-        b"(1, 0) along (1, 0), limit -0",
-        1.0,
-        0.0,
-        1.0,
-        0.0,
-        -0.0,
+        "(1, 0) along (1, 0), limit -0",
+        soc_step::soc_step(&[1.0, 0.0], &[1.0, 0.0], -0.0),
     )?;
-    soc_step(
+    line_step(
         out,
-        b"(1, 0) along (1, 0), limit -1",
-        1.0,
-        0.0,
-        1.0,
-        0.0,
-        -1.0,
+        "(1, 0) along (1, 0), limit -1",
+        soc_step::soc_step(&[1.0, 0.0], &[1.0, 0.0], -1.0),
     )?;
-    soc_step(
+    line_step(
         out,
-        b"(1, 0) along (1, 0), limit NaN",
-        1.0,
-        0.0,
-        1.0,
-        0.0,
-        0.0 / 0.0,
+        "(1, 0) along (1, 0), limit NaN",
+        soc_step::soc_step(&[1.0, 0.0], &[1.0, 0.0], 0.0 / 0.0),
     )
 }
 
 fn second_order_edges<W: Write>(out: &mut W) -> io::Result<()> {
-    line_soc_step(out, b"dimension 1", &[1.0], &[1.0], 1.0)?;
-    line_soc_step(out, b"dimension 2", &[1.0; 2], &[0.0; 2], 1.0)?;
-    line_soc_step(out, b"dimension 4,096", &[1.0; 4096], &[0.0; 4096], 1.0)?;
-    line_soc_step(out, b"dimension 4,097", &[1.0; 4097], &[0.0; 4097], 1.0)
+    line_step(out, "dimension 1", soc_step::soc_step(&[1.0], &[1.0], 1.0))?;
+    line_step(
+        out,
+        "dimension 2",
+        soc_step::soc_step(&[1.0; 2], &[0.0; 2], 1.0),
+    )?;
+    line_step(
+        out,
+        "dimension 4,096",
+        soc_step::soc_step(&[1.0; 4096], &[0.0; 4096], 1.0),
+    )?;
+    line_step(
+        out,
+        "dimension 4,097",
+        soc_step::soc_step(&[1.0; 4097], &[0.0; 4097], 1.0),
+    )
 }
 
 fn nonnegative_edges<W: Write>(out: &mut W) -> io::Result<()> {
-    line_nn_step(out, b"nonnegative dimension 0", &[1.0; 0], &[1.0; 0], 1.0)?;
-    line_nn_step(
+    line_step(
         out,
-        b"nonnegative dimension 4,096",
-        &[1.0; 4096],
-        &[0.0; 4096],
-        1.0,
+        "nonnegative dimension 0",
+        nn_step::nn_step(&[1.0; 0], &[1.0; 0], 1.0),
     )?;
-    line_nn_step(
+    line_step(
         out,
-        b"nonnegative dimension 4,097",
-        &[1.0; 4097],
-        &[0.0; 4097],
-        1.0,
+        "nonnegative dimension 4,096",
+        nn_step::nn_step(&[1.0; 4096], &[0.0; 4096], 1.0),
+    )?;
+    line_step(
+        out,
+        "nonnegative dimension 4,097",
+        nn_step::nn_step(&[1.0; 4097], &[0.0; 4097], 1.0),
     )
 }
 
 fn sparse_edge<W: Write>(out: &mut W) -> io::Result<()> {
     line_identity(
         out,
-        b"identity at 4, dense",
+        "identity at 4, dense",
         &mut [0.0; 4],
         &mut [0.0; 4],
         &mut [0.0; 4],
     )?;
     line_identity(
         out,
-        b"identity at 5, sparse",
+        "identity at 5, sparse",
         &mut [0.0; 5],
         &mut [0.0; 5],
         &mut [0.0; 5],

@@ -1,44 +1,53 @@
 -- `bounds::bounds` meets its contract. Assumes nothing.
-use mathlib.Core.Path.{refl}
-use mathlib.Core.Bool.{false}
-use lib.Ieee.{is_nan, div, of_bits}
+use native.Mathlib.Omega.{arith}
+use mathlib.Core.Path.{◌≡◌, refl, ◌∙◌}
+use Prim.Native.Nat.{◌+◌, ◌*◌, ◌/◌, ◌<◌, ◌≤◌}
+use lib.ListN.{length}
+use lib.Ieee.{nan, is_nan, div, of_bits}
 use Rattle.ordering.proofs.Shortens.{least_assoc}
 use Rattle.vecmath.specs.Vector.{minimum, positives}
-use Rattle.vecmath.proofs.Loops.{loops}
-use Rattle.bounds.proofs.Laws.{two_turns, last_turn}
+use Rattle.vecmath.proofs.Loops.{loops, fold_end, ◌!◌}
+use Rattle.bounds.proofs.Laws.{pair_is, last_is, two_turns, last_turn}
 use Rattle.bounds.proofs.bounds.Goals as goal
+use Rattle.bounds.proofs.bounds.Goals.{After-greatest-in-Some, In_default}
 
-pub loop-i-init : goal.loop-i-init
-unfolding minimum positives div of_bits is_nan
-loop-i-init c = search loops
+pub loop-a-init : goal.loop-a-init
+unfolding div of_bits is_nan
+loop-a-init c = search loops
 
-pub loop-i-preserved : goal.loop-i-preserved
-unfolding minimum positives div of_bits is_nan
-loop-i-preserved c =
-    let so_far = c.loop-i.invariant in (
-      two_turns so_far.0 c.loop-i-test.true refl (rw (c.lower-least.ensures.value, c.least.ensures) (least_assoc _ _ _)),
-      two_turns so_far.1 c.loop-i-test.true refl (rw (c.greatest-in-loop-i.ensures, c.greatest.ensures)),
+pub loop-a-preserved : goal.loop-a-preserved
+loop-a-preserved c =
+    let so_far = c.loop-a.invariant in
+    let within : c.loop-a.a-index < length c.args.x.now / 2 = omega (arith, c.loop-a-test.true, c.as_chunks.ensures.front_len) in
+    let pair = pair_is _ _ _ c.as_chunks.ensures.front within in (
+      two_turns so_far.0 (omega arith) (omega arith) (rw (c.lower-least.ensures.value, c.least.ensures, pair.0, pair.1) (least_assoc _ _ _)),
+      two_turns so_far.1 (omega arith) (omega arith) (rw (c.greatest-in-loop-a.ensures, c.greatest.ensures, pair.0, pair.1)),
       c.lower-least.ensures.result_value,
     )
 
-pub returns-then-i-x-clause-least_value : goal.returns-then-i-x-clause-least_value
-unfolding minimum positives div of_bits is_nan
-returns-then-i-x-clause-least_value c =
-    let so_far = c.loop-i.invariant in
-    let last = c.loop-i-test.false in
-    last_turn so_far.0 c.if-i-x.true last c.lower.ensures.value refl
+-- one entry is left over, and which it is
+left : (c : After-greatest-in-Some) → (length c.args.x.now ≡ 2 * c.loop-a.a-index + 1) × (c.in-Some.a.now ≡ c.args.x.now ! (2 * c.loop-a.a-index))
+left c =
+    let item = c.in-Some.ensures.item.3 in
+    let all : c.loop-a.a-index ≡ length c.args.x.now / 2 = omega (arith, c.loop-a-test.false, c.as_chunks.ensures.front_len, c.loop-a.invariant.0.within) in
+    (omega (arith, all, item.0, c.as_chunks.ensures.back_len), item.1 nan ∙ last_is _ _ _ c.as_chunks.ensures.back all)
 
-pub returns-then-i-x-clause-sum_value : goal.returns-then-i-x-clause-sum_value
-unfolding minimum positives div of_bits is_nan
-returns-then-i-x-clause-sum_value c =
-    let so_far = c.loop-i.invariant in
-    let last = c.loop-i-test.false in
-    last_turn so_far.1 c.if-i-x.true last (rw c.greatest-then-i-x.ensures) refl
+pub returns-in-Some-clause-least_value : goal.returns-in-Some-clause-least_value
+unfolding minimum
+returns-in-Some-clause-least_value c = last_turn c.loop-a.invariant.0 (omega (arith, (left c).0)) (omega (arith, (left c).0)) (rw (c.lower.ensures.value, (left c).1)) refl
+
+pub returns-in-Some-clause-sum_value : goal.returns-in-Some-clause-sum_value
+unfolding positives
+returns-in-Some-clause-sum_value c = last_turn c.loop-a.invariant.1 (omega (arith, (left c).0)) (omega (arith, (left c).0)) (rw (c.greatest-in-Some.ensures, (left c).1)) refl
+
+-- none is left over
+none : (c : In_default) → length c.args.x.now ≤ 2 * c.loop-a.a-index
+none c = omega (arith, c.loop-a-test.false, c.as_chunks.ensures.front_len, c.as_chunks.ensures.back_len, c.in_default.ensures.item.3)
 
 pub returns-clause-least_value : goal.returns-clause-least_value
-unfolding minimum positives div of_bits is_nan
-returns-clause-least_value c = search loops
+unfolding minimum
+returns-clause-least_value c = fold_end c.loop-a.invariant.0 (none c) refl
 
 pub returns-clause-sum_value : goal.returns-clause-sum_value
-unfolding minimum positives div of_bits is_nan
-returns-clause-sum_value c = search loops
+unfolding positives
+returns-clause-sum_value c = fold_end c.loop-a.invariant.1 (none c) refl

@@ -1,14 +1,6 @@
 -- `case_rows::records` meets its contract. Assumes nothing.
-use Rattle.case_rows.specs.Rows.{records}
 use Rattle.case_words.proofs.Laws.{firsts}
 use Rattle.case_rows.proofs.records.Goals as goal
 
-pub loop-i-init : goal.loop-i-init
-loop-i-init c = search firsts
-
 pub loop-i-preserved : goal.loop-i-preserved
 loop-i-preserved c = search firsts
-
-pub returns : goal.returns
-unfolding records
-returns c = search firsts

@@ -4,11 +4,9 @@ use Rattle.vecmath.proofs.Loops.{loops, fold_end, sumsq_each}
 use Rattle.folds_shifted.proofs.sumsq_shifted.Goals as goal
 
 pub loop-i-init : goal.loop-i-init
-unfolding shifted
 loop-i-init c = search loops
 
 pub loop-i-preserved : goal.loop-i-preserved
-unfolding shifted
 loop-i-preserved c = search loops
 
 pub returns : goal.returns

@@ -1,14 +1,7 @@
 -- `list_blocks::get_hs_at` meets its contract. Assumes nothing.
 use lib.ListN.{length}
-use Rattle.answers.proofs.Laws.{outcomes}
 use Rattle.conecalls.proofs.Marked.{open_marked}
 use Rattle.list_blocks.proofs.get_hs_at.Goals as goal
 
-pub returns-then-no-ne0 : goal.returns-then-no-ne0
-returns-then-no-ne0 c = rw (← c.unset.ensures) (search outcomes)
-
 pub hs_in-requires : goal.hs_in-requires
-hs_in-requires c = let a = c.args in open_marked a.p _ (length a.marks.now) a.p.count _ _ c.refusal-no.ensures c.if-no-ne0.false
-
-pub returns : goal.returns
-returns c = rw (← c.unset.ensures) (search outcomes)
+hs_in-requires c = let a = c.args in open_marked a.p _ (length a.marks.now) a.p.count c.in_ok-check.ensures

@@ -1,13 +1,6 @@
 -- `list_jordan::inv_circ_op_at` meets its contract. Written by tools/surface. Assumes nothing.
-use Rattle.answers.proofs.Laws.{outcomes}
 use Rattle.conelist.proofs.Placed.{open_at}
 use Rattle.list_jordan.proofs.inv_circ_op_at.Goals as goal
 
-pub returns-then-no-ne0 : goal.returns-then-no-ne0
-returns-then-no-ne0 c = search outcomes
-
 pub inv_circ_op_in-requires : goal.inv_circ_op_in-requires
-inv_circ_op_in-requires c = open_at _ _ _ c.refusal-no.ensures c.if-no-ne0.false
-
-pub returns : goal.returns
-returns c = search outcomes
+inv_circ_op_in-requires c = open_at _ _ c.in_ok-check.ensures

@@ -1,27 +1,13 @@
 -- `list_scaling::update_scaling_at` meets its contract. Assumes nothing.
-use Rattle.answers.proofs.Laws.{does, outcomes}
+use Rattle.answers.proofs.Laws.{does}
 use Rattle.conelist.proofs.Placed.{open_at}
 use Rattle.list_scaling.specs.Scaling.{lengths_at}
-use Rattle.list_scaling.proofs.Laws.{unmarked, mark_within, with_mark}
 use Rattle.list_scaling.proofs.update_scaling_at.Goals as goal
 
-pub returns-then-no-ne0 : goal.returns-then-no-ne0
-returns-then-no-ne0 c = search outcomes
-
-pub scaling_in-truth-requires : goal.scaling_in-truth-requires
-scaling_in-truth-requires c =
+pub scaling_marked-requires : goal.scaling_marked-requires
+scaling_marked-requires c =
     let a = c.args in
-    unmarked a.p a.s.now a.z.now a.w.now a.lambda.now a.u.now a.v.now a.eta.now a.d.now a.marks.now
-    (open_at a.p (lengths_at a.p a.s.now a.z.now a.w.now a.lambda.now a.u.now a.v.now a.eta.now a.d.now a.marks.now) _ c.refusal-no.ensures c.if-no-ne0.false)
-
-pub set_scaled-requires : goal.set_scaled-requires
-set_scaled-requires c =
-    let a = c.args in
-    mark_within a.p a.s.now a.z.now a.w.now a.lambda.now a.u.now a.v.now a.eta.now a.d.now a.marks.now
-    (open_at a.p (lengths_at a.p a.s.now a.z.now a.w.now a.lambda.now a.u.now a.v.now a.eta.now a.d.now a.marks.now) _ c.refusal-no.ensures c.if-no-ne0.false)
+    open_at a.p (lengths_at a.p a.s.now a.z.now a.w.now a.lambda.now a.u.now a.v.now a.eta.now a.d.now a.marks.now) c.in_ok-check.ensures
 
 pub returns : goal.returns
-returns c =
-    let a = c.args in
-    does _ _ _ _ c.refusal-no.ensures c.if-no-ne0.false
-    (with_mark a.p a.s.now a.z.now a.w.now a.lambda.now a.u.now a.v.now a.eta.now a.d.now a.marks.now c.scaling_in-truth.ensures c.set_scaled.ensures)
+returns c = does _ _ _ _ c.in_ok-check.ensures c.scaling_marked.ensures

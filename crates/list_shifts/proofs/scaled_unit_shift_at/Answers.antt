@@ -1,13 +1,6 @@
 -- `list_shifts::scaled_unit_shift_at` meets its contract. Written by tools/surface. Assumes nothing.
-use Rattle.answers.proofs.Laws.{outcomes}
 use Rattle.conelist.proofs.Placed.{open_at}
 use Rattle.list_shifts.proofs.scaled_unit_shift_at.Goals as goal
 
-pub returns-then-no-ne0 : goal.returns-then-no-ne0
-returns-then-no-ne0 c = search outcomes
-
 pub scaled_unit_shift_in-requires : goal.scaled_unit_shift_in-requires
-scaled_unit_shift_in-requires c = open_at _ _ _ c.refusal-no.ensures c.if-no-ne0.false
-
-pub returns : goal.returns
-returns c = search outcomes
+scaled_unit_shift_in-requires c = open_at _ _ c.in_ok-check.ensures

@@ -4,11 +4,9 @@ use Rattle.measured.specs.Fitted.{roots}
 use Rattle.measured.proofs.roots.Goals as goal
 
 pub loop-i-init : goal.loop-i-init
-unfolding roots
 loop-i-init c = search loops
 
 pub loop-i-preserved : goal.loop-i-preserved
-unfolding roots
 loop-i-preserved c = rw c.sqrt.ensures (search loops)
 
 pub returns : goal.returns

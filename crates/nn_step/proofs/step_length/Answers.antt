@@ -5,11 +5,9 @@ use Rattle.nn_step.specs.Step.{nonneg_step}
 use Rattle.nn_step.proofs.step_length.Goals as goal
 
 pub loop-i-init : goal.loop-i-init
-unfolding nonneg_step
 loop-i-init c = search loops
 
 pub loop-i-preserved : goal.loop-i-preserved
-unfolding nonneg_step
 loop-i-preserved c = rw (c.shorter-alpha_s.ensures, c.shorter-alpha_z.ensures) (search loops)
 
 pub returns : goal.returns

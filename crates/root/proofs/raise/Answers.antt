@@ -10,20 +10,11 @@ zeros c = subnormal c.args.b c.requires c.if-b-ne0.false
 pub returns-then-b-ne0 : goal.returns-then-b-ne0
 returns-then-b-ne0 c = raise_high c.args.b c.ranges.b.fits c.requires c.if-b-ne0.true
 
-pub overflow_cast-z : goal.overflow_cast-z
-overflow_cast-z c = omega (arith, zeros c)
-
 pub overflow_sub-z : goal.overflow_sub-z
 overflow_sub-z c = omega (arith, zeros c)
 
-pub overflow_shl-result : goal.overflow_shl-result
-overflow_shl-result c = omega (arith, zeros c)
-
 pub overflow_add-result : goal.overflow_add-result
 overflow_add-result c = omega (arith, zeros c)
-
-pub overflow_add-result-2 : goal.overflow_add-result-2
-overflow_add-result-2 c = omega (arith, zeros c)
 
 pub returns : goal.returns
 returns c = raise_low c.args.b (zeros c)

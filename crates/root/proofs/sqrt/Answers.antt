@@ -3,15 +3,12 @@ use Rattle.std.proofs.Common.{T, sym, ap, ◌∙◌, subst}
 use lib.Ieee.{binary64, fits}
 use lib.Ieee.Bits.{of_bits-to_bits}
 use Rattle.root.specs.Root.{root}
-use Rattle.root.proofs.Specials.{root_below, root_infinity, root_neither, above_no_nan, is_positive}
+use Rattle.root.proofs.Specials.{root_below, root_infinity, root_neither, is_positive}
 use Rattle.root.proofs.sqrt.Goals as goal
 use Rattle.root.proofs.sqrt.Goals.{Start}
 
 held : (c : Start) → T (fits binary64 c.args.x)
 held c = subst T (sym c.well_formed.0.1) tt
-
-pub float_to_bits-b : goal.float_to_bits-b
-float_to_bits-b c = above_no_nan _ c.if-x.true
 
 pub returns-then-b-eq9218868437227405312 : goal.returns-then-b-eq9218868437227405312
 returns-then-b-eq9218868437227405312 c = root_infinity _ (held c.before.before) c.if-b-eq9218868437227405312.true

@@ -2,15 +2,11 @@
 use Rattle.std.proofs.Common.{T, sym, ◌∙◌, subst}
 use lib.Ieee.{binary64, of_bits, neg}
 use lib.Ieee.Bits.{of_bits-to_bits}
-use lib.Ieee.Compare.{differs_from_itself}
-use Rattle.show.proofs.Laws.{no_nan}
+use Rattle.show.proofs.Laws.{only_nan}
 use Rattle.show.proofs.spell.Goals as goal
 
-pub returns-then-x : goal.returns-then-x
-returns-then-x c = sym (differs_from_itself _ (subst T (sym c.if-x.true) tt))
-
-pub float_to_bits-b : goal.float_to_bits-b
-float_to_bits-b c = no_nan _ c.if-x.false
+pub returns-then-is_nan : goal.returns-then-is_nan
+returns-then-is_nan c = only_nan _ (sym c.if-is_nan.ensures.value)
 
 pub truncating_f64_to_u64-requires-clause-lower_bound : goal.truncating_f64_to_u64-requires-clause-lower_bound
 unfolding of_bits neg

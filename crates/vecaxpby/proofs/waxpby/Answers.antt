@@ -4,11 +4,9 @@ use Rattle.vecmath.proofs.Loops.{loops}
 use Rattle.vecaxpby.proofs.waxpby.Goals as goal
 
 pub loop-i-init : goal.loop-i-init
-unfolding axpby
 loop-i-init c = search loops
 
 pub loop-i-preserved : goal.loop-i-preserved
-unfolding axpby
 loop-i-preserved c = search loops
 
 pub returns : goal.returns

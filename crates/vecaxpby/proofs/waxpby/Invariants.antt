@@ -1,9 +1,6 @@
 -- What `vecaxpby::waxpby` keeps true in its loop. Assumes nothing.
-use Rattle.vecmath.proofs.Loops.{Filled, length, ◌-◌, nan, ◌⊕◌, ◌⊗◌, ◌!◌}
+use Rattle.vecmath.proofs.Loops.{Filled, nan, ◌⊕◌, ◌⊗◌, ◌!◌}
 use Rattle.vecaxpby.proofs.waxpby.Given as goal
 
 abbrev pub invariant-loop-i : goal.invariant-loop-i
 invariant-loop-i l = Filled nan (λ k v. l.a ⊗ l.x ! k ⊕ l.b ⊗ l.y ! k) l.initial.w l.i l.w
-
-abbrev pub decreases-loop-i : goal.decreases-loop-i
-decreases-loop-i l = length l.initial.w - l.i

@@ -1,9 +1,6 @@
 -- What `vecscale::translate` keeps true in its loop. Assumes nothing.
-use Rattle.vecmath.proofs.Loops.{Filled, length, ◌-◌, nan, ◌⊕◌}
+use Rattle.vecmath.proofs.Loops.{Filled, nan, ◌⊕◌}
 use Rattle.vecscale.proofs.translate.Given as goal
 
-abbrev pub invariant-loop-i : goal.invariant-loop-i
-invariant-loop-i l = Filled nan (λ k v. v ⊕ l.a) l.initial.y l.i l.y
-
-abbrev pub decreases-loop-i : goal.decreases-loop-i
-decreases-loop-i l = length l.initial.y - l.i
+abbrev pub invariant-loop-v : goal.invariant-loop-v
+invariant-loop-v l = Filled nan (λ k v. v ⊕ l.a) l.initial.y l.v-index l.y

@@ -4,11 +4,9 @@ use Rattle.vecmath.proofs.Loops.{loops}
 use Rattle.vectimes.proofs.multiply.Goals as goal
 
 pub loop-i-init : goal.loop-i-init
-unfolding products
 loop-i-init c = search loops
 
 pub loop-i-preserved : goal.loop-i-preserved
-unfolding products
 loop-i-preserved c = search loops
 
 pub returns : goal.returns

@@ -3,15 +3,12 @@ use Rattle.std.proofs.Common.{T, sym, ap, ◌∙◌, subst}
 use lib.Ieee.{binary64, fits}
 use lib.Ieee.Bits.{of_bits-to_bits}
 use Rattle.root.specs.Root.{root}
-use Rattle.root.proofs.Specials.{above_no_nan, is_positive}
+use Rattle.root.proofs.Specials.{is_positive}
 use Rattle.root.proofs.plain.sqrt.Goals as goal
 use Rattle.root.proofs.plain.sqrt.Goals.{Start}
 
 held : (c : Start) → T (fits binary64 c.args.x)
 held c = subst T (sym c.well_formed.0.1) tt
-
-pub float_to_bits-b : goal.float_to_bits-b
-float_to_bits-b c = above_no_nan _ c.if-x.true
 
 pub positive_root-requires : goal.positive_root-requires
 positive_root-requires c = rw (of_bits-to_bits binary64 _ (held c.before.before)) (is_positive _ c.if-x.true c.if-b-ne9218868437227405312.true)

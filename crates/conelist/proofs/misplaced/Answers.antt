@@ -1,9 +1,0 @@
--- `conelist::misplaced` meets its contract. Assumes nothing.
-use Rattle.conelist.proofs.Placed.{spots}
-use Rattle.conelist.proofs.misplaced.Goals as goal
-
-pub returns-then-least-n : goal.returns-then-least-n
-returns-then-least-n c = search spots
-
-pub returns-else-least-n : goal.returns-else-least-n
-returns-else-least-n c = search spots

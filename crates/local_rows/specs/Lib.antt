@@ -1,2 +1,0 @@
--- `Front`: how many records of an array are lent.
-pub mod Front

@@ -1,2 +1,0 @@
--- `Laws`: of `fitted_of`.
-pub mod Laws

@@ -1,9 +1,0 @@
--- `standing::nn_standing` meets its contract. Assumes nothing.
-use Rattle.answers.proofs.Laws.{outcomes}
-use Rattle.standing.proofs.nn_standing.Goals as goal
-
-pub returns-then-no-ne0 : goal.returns-then-no-ne0
-returns-then-no-ne0 c = search outcomes
-
-pub returns : goal.returns
-returns c = search outcomes
