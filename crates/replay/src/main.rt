@@ -52,11 +52,9 @@ fn replay<R: Read + Drop, W: Write>(input: R, out: &mut W) -> io::Result<()> {
     }
 }
 
-// What was told before a read failed is not lost.
 fn main(rt: HostRuntime) -> io::Result<()> {
     let input = BufReader::new(rt.alloc(), rt.reader())?;
     let mut out = BufWriter::new(rt.alloc(), io::writer(&rt))?;
-    let replayed = replay(input, &mut out);
-    out.flush()?;
-    replayed
+    replay(input, &mut out)?;
+    out.flush()
 }

@@ -28,7 +28,7 @@ fn two<W: Write>(out: &mut W, a: f64, b: f64) -> io::Result<()> {
     write!(out, "{} {}", show::spell(a), show::spell(b))
 }
 
-fn three_of<W: Write>(out: &mut W, a: f64, b: f64, c: f64) -> io::Result<()> {
+fn triple<W: Write>(out: &mut W, a: f64, b: f64, c: f64) -> io::Result<()> {
     two(out, a, b)?;
     write!(out, " {}", show::spell(c))
 }
@@ -93,15 +93,9 @@ fn ten() -> [Cone; 257] {
 // ---- a row is taken, or refused
 
 // The margins of cone k, where every entry is 1, of ten entries in all.
-fn line<W: Write>(
-    out: &mut W,
-    of: &str,
-    list: &[Cone; 257],
-    cones: usize,
-    k: usize,
-) -> io::Result<()> {
+fn line<W: Write>(out: &mut W, of: &str, list: &[Cone], k: usize) -> io::Result<()> {
     write!(out, "{of:<40}")?;
-    match list_margins::margins_at(local_rows::place_in(list, cones, k), &[1.0; 10]) {
+    match list_margins::margins_at(conewalk::place_of(list, k), &[1.0; 10]) {
         Ok(m) => two(out, m.alpha, m.beta)?,
         Err(refusal) => write!(out, "{refusal}")?,
     }
@@ -109,11 +103,16 @@ fn line<W: Write>(
 }
 
 fn taken<W: Write>(out: &mut W) -> io::Result<()> {
-    line(out, "cone 0 of three", &ten(), 3, 0)?;
-    line(out, "cone 1 of three", &ten(), 3, 1)?;
-    line(out, "cone 2 of three", &ten(), 3, 2)?;
-    line(out, "cone 3 of three", &ten(), 3, 3)?;
-    line(out, "cone 0 of two, the buffer too long", &ten(), 2, 0)
+    line(out, "cone 0 of three", local_rows::front(&ten(), 3), 0)?;
+    line(out, "cone 1 of three", local_rows::front(&ten(), 3), 1)?;
+    line(out, "cone 2 of three", local_rows::front(&ten(), 3), 2)?;
+    line(out, "cone 3 of three", local_rows::front(&ten(), 3), 3)?;
+    line(
+        out,
+        "cone 0 of two, the buffer too long",
+        local_rows::front(&ten(), 2),
+        0,
+    )
 }
 
 // One cone alone.
@@ -121,8 +120,7 @@ fn alone<W: Write>(out: &mut W, of: &str, first: Cone) -> io::Result<()> {
     line(
         out,
         of,
-        &three(first, nonnegative(0, 0), nonnegative(0, 0)),
-        1,
+        local_rows::front(&three(first, nonnegative(0, 0), nonnegative(0, 0)), 1),
         0,
     )
 }
@@ -140,7 +138,12 @@ fn first_records<W: Write>(out: &mut W) -> io::Result<()> {
 }
 
 fn later<W: Write>(out: &mut W, of: &str, second: Cone, third: Cone, k: usize) -> io::Result<()> {
-    line(out, of, &three(nonnegative(0, 2), second, third), 3, k)
+    line(
+        out,
+        of,
+        local_rows::front(&three(nonnegative(0, 2), second, third), 3),
+        k,
+    )
 }
 
 fn later_records<W: Write>(out: &mut W) -> io::Result<()> {
@@ -175,14 +178,18 @@ fn later_records<W: Write>(out: &mut W) -> io::Result<()> {
 }
 
 fn counts<W: Write>(out: &mut W) -> io::Result<()> {
-    line(out, "no cones", &empty(), 0, 0)?;
-    line(out, "256 cones, the buffer too long", &empty(), 256, 255)?;
-    line(out, "257 cones", &empty(), 257, 0)?;
+    line(out, "no cones", local_rows::front(&empty(), 0), 0)?;
+    line(
+        out,
+        "256 cones, the buffer too long",
+        local_rows::front(&empty(), 256),
+        255,
+    )?;
+    line(out, "257 cones", local_rows::front(&empty(), 257), 0)?;
     line(
         out,
         "257 cones, all out of range",
-        &[second_order(0, 1); 257],
-        257,
+        local_rows::front(&[second_order(0, 1); 257], 257),
         0,
     )
 }
@@ -190,11 +197,11 @@ fn counts<W: Write>(out: &mut W) -> io::Result<()> {
 // Sixteen cones of 4,096 entries are 65,536; then a cone of so many entries.
 fn full<W: Write>(out: &mut W, of: &str, n: usize) -> io::Result<()> {
     let mut list = empty();
-    for i in 0..16 {
-        list[i] = nonnegative(4096 * i, 4096);
+    for (i, cone) in list[..16].iter_mut().enumerate() {
+        *cone = nonnegative(4096 * i, 4096);
     }
     list[16] = nonnegative(65536, n);
-    line(out, of, &list, 17, 0)
+    line(out, of, local_rows::front(&list, 17), 0)
 }
 
 fn totals<W: Write>(out: &mut W) -> io::Result<()> {
@@ -313,8 +320,7 @@ fn square<W: Write>(out: &mut W, of: &str, k: usize, mark: u8) -> io::Result<()>
     let list = three(nonnegative(0, 2), second_order(2, 4), second_order(6, 5));
     let p = local_rows::place_in(&list, 3, k);
     let got = list_square::square_hs_at(p, &[2.0; 11], &[1.0; 3], &[mark; 3]);
-    write!(out, "{}", got.no)?;
-    write!(out, " ")?;
+    write!(out, "{} ", got.no)?;
     two(out, got.rows[0].entries[0], got.rows[3].entries[2])?;
     writeln!(out)
 }
@@ -353,28 +359,47 @@ fn steps<W: Write>(out: &mut W) -> io::Result<()> {
 }
 
 // The s side goes nowhere.
-fn whole<W: Write>(
-    out: &mut W,
-    of: &str,
-    list: &[Cone; 257],
-    cones: usize,
-    limit: f64,
-) -> io::Result<()> {
+fn whole<W: Write>(out: &mut W, of: &str, list: &[Cone], limit: f64) -> io::Result<()> {
     write!(out, "{of:<40}")?;
     let x = [4.0, 9.0, 5.0, 0.0];
     let y = [-1.0, -3.0, 0.0, 1.0];
     say_steps(
         out,
-        whole_step::list_step_length(local_rows::front(list, cones), &y, &[0.0; 4], &x, &x, limit),
+        whole_step::list_step_length(list, &y, &[0.0; 4], &x, &x, limit),
     )
 }
 
 fn wholes<W: Write>(out: &mut W) -> io::Result<()> {
-    whole(out, "list step, limit 10", &four(), 3, 10.0)?;
-    whole(out, "list step, limit 2", &four(), 3, 2.0)?;
-    whole(out, "list step, a buffer too long", &four(), 1, 10.0)?;
-    whole(out, "list step, limit -1", &four(), 3, -1.0)?;
-    whole(out, "list step, a start off", &ten(), 4, -1.0)
+    whole(
+        out,
+        "list step, limit 10",
+        local_rows::front(&four(), 3),
+        10.0,
+    )?;
+    whole(
+        out,
+        "list step, limit 2",
+        local_rows::front(&four(), 3),
+        2.0,
+    )?;
+    whole(
+        out,
+        "list step, a buffer too long",
+        local_rows::front(&four(), 1),
+        10.0,
+    )?;
+    whole(
+        out,
+        "list step, limit -1",
+        local_rows::front(&four(), 3),
+        -1.0,
+    )?;
+    whole(
+        out,
+        "list step, a start off",
+        local_rows::front(&ten(), 4),
+        -1.0,
+    )
 }
 
 // An empty list gives the limit twice.
@@ -406,8 +431,7 @@ fn said<W: Write>(out: &mut W, marks: [u8; 3]) -> io::Result<()> {
 fn scaled<W: Write>(
     out: &mut W,
     of: &str,
-    list: &[Cone; 257],
-    cones: usize,
+    list: &[Cone],
     s: [f64; 6],
     z: [f64; 6],
 ) -> io::Result<()> {
@@ -422,7 +446,7 @@ fn scaled<W: Write>(
     say_scalings(
         out,
         whole_scaling::list_update_scaling(
-            local_rows::front(list, cones),
+            list,
             &s,
             &z,
             &mut w,
@@ -435,9 +459,9 @@ fn scaled<W: Write>(
         ),
     )?;
     write!(out, " | ")?;
-    three_of(out, eta[0], eta[1], eta[2])?;
+    triple(out, eta[0], eta[1], eta[2])?;
     write!(out, " | ")?;
-    three_of(out, w[0], w[2], w[4])?;
+    triple(out, w[0], w[2], w[4])?;
     said(out, marks)
 }
 
@@ -451,14 +475,31 @@ fn scaled_lines<W: Write>(out: &mut W) -> io::Result<()> {
     let early = [5.0, 3.0, 1.0, 1.0, 5.0, 3.0];
     let late = [5.0, 3.0, 2.0, 0.0, 5.0, 3.0];
     let turned = [5.0, 3.0, -2.0, 0.0, 5.0, 3.0];
-    scaled(out, "list scaling, all true", &pairs(), 3, inside, inside)?;
-    scaled(out, "list scaling, early false", &pairs(), 3, early, inside)?;
-    scaled(out, "list scaling, late false", &pairs(), 3, late, turned)?;
+    scaled(
+        out,
+        "list scaling, all true",
+        local_rows::front(&pairs(), 3),
+        inside,
+        inside,
+    )?;
+    scaled(
+        out,
+        "list scaling, early false",
+        local_rows::front(&pairs(), 3),
+        early,
+        inside,
+    )?;
+    scaled(
+        out,
+        "list scaling, late false",
+        local_rows::front(&pairs(), 3),
+        late,
+        turned,
+    )?;
     scaled(
         out,
         "list scaling, a buffer too long",
-        &pairs(),
-        2,
+        local_rows::front(&pairs(), 2),
         inside,
         inside,
     )
@@ -471,16 +512,14 @@ fn scaled_edges<W: Write>(out: &mut W) -> io::Result<()> {
     scaled(
         out,
         "list scaling, false at the first",
-        &pairs(),
-        3,
+        local_rows::front(&pairs(), 3),
         first,
         inside,
     )?;
     scaled(
         out,
         "list scaling, false at the last",
-        &pairs(),
-        3,
+        local_rows::front(&pairs(), 3),
         last,
         inside,
     )?;
@@ -488,8 +527,7 @@ fn scaled_edges<W: Write>(out: &mut W) -> io::Result<()> {
     scaled(
         out,
         "list scaling, dimension 1 at the last",
-        &short,
-        3,
+        local_rows::front(&short, 3),
         inside,
         inside,
     )?;
@@ -497,16 +535,14 @@ fn scaled_edges<W: Write>(out: &mut W) -> io::Result<()> {
     scaled(
         out,
         "list scaling, start off at the last",
-        &off,
-        3,
+        local_rows::front(&off, 3),
         inside,
         inside,
     )?;
     scaled(
         out,
         "list scaling, 257 cones",
-        &empty(),
-        257,
+        local_rows::front(&empty(), 257),
         inside,
         inside,
     )
