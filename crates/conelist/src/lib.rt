@@ -81,7 +81,7 @@ fn within(at: usize, n: usize, all: usize) -> bool
 impl Place {
     // The refusal that it carries; a number above 4 is no list's.
     #[tactic(auto, using(std::proofs::lemmas::Bool::Decides::nat_tests), unfolding(crate::specs::Layout::carried))]
-    fn check_carried(self) -> Result<(), Refusal>
+    pub fn check_carried(self) -> Result<(), Refusal>
         ensures { number_in result ≡ carried self }
     {
         match self.no {

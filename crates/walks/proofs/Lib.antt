@@ -1,3 +1,3 @@
--- `Law`: one law of all walks of a lent row of records. `Indexed`: a list's kinds, by the index of a record.
+-- `Law`: one law of all walks of a lent row of records. `Indexed`: over the records is over their indices.
 pub mod Law
 pub mod Indexed

@@ -3,9 +3,9 @@ use Prim.Native.Nat.{ℕ, zero, suc, ◌+◌, ◌-◌, ◌≤◌, ◌<◌}
 use native.Mathlib.Omega.{arith}
 use native.Mathlib.Numerals.{add-one}
 use mathlib.Core.Path.{◌≡◌, refl, sym, ap, ◌∙◌}
-use mathlib.Core.Bool.{false}
+use mathlib.Core.Bool.{Bool, true, false, cond}
 use mathlib.Core.List.{List, [], ◌∷◌}
-use borrow.Author.Tests.{lt-ltb, le-ltb, ltb-false}
+use borrow.Author.Tests.{lt-ltb, le-ltb, ltb-true, ltb-false}
 use lib.Dec.{ltb}
 use lib.ListN.{length, get_or, take, drop, drop_of_length-le, length-take, length-drop}
 use lib.Seq.{drop-cons}
@@ -15,12 +15,13 @@ use mir.Val.{Fits as Word}
 use Rattle.std.proofs.lemmas.Bool.{or_parts}
 use Rattle.extrema.specs.Extrema.{least_of}
 use Rattle.vecmath.specs.Vector.{fold_of}
-use Rattle.walks.specs.Records.{no_cone}
+use Rattle.walks.specs.Records.{no_cone, over_records}
 use Rattle.walks.proofs.Indexed.{kind_at}
+use Rattle.walks.proofs.Law.{rest, turned, ended}
 use Rattle.answers.specs.Refusal.{number_of, ◌⊳◌, unlike, bad_limit, Fit}
 use Rattle.answers.specs.declared.Refusal.{Refusal}
-use Rattle.answers.specs.Outcome.{Reply, refuses, tells, lengths, call_of}
-use Rattle.answers.proofs.Laws.{clear_both, clear_lengths, lengths_are, refused, refused_first}
+use Rattle.answers.specs.Outcome.{Reply, Ruling, gives, refuses, tells, lengths, call_of}
+use Rattle.answers.proofs.Laws.{clear_both, clear_lengths, numbered, lengths_are}
 use Rattle.ordering.proofs.Listed.{list_loop}
 use Rattle.conelist.specs.declared.Cone.{Cone}
 use Rattle.conelist.specs.Layout.{dim, least_dim, kind_of_cone, sum_before, entries_of, bad_record, bad_records, bad_list, fit_all}
@@ -28,7 +29,41 @@ use Rattle.conelist.proofs.Placed.{all_fit}
 use Rattle.place_turns.proofs.Records.{good}
 use Rattle.whole_step.specs.List.{step_of_cone, list_step_length}
 use Rattle.whole_step.specs.declared.Walk.{Walk}
-use Rattle.whole_step.specs.Walk.{short, step_over}
+use Rattle.whole_step.specs.Walk.{step_opening, short, step_over, onward, step_further, step_closing}
+
+-- ---- the opening and a turn
+
+pub opened : (n : ℕ) (αmax : Float) → n ≤ 256 → step_opening n αmax ≡ gives (record { total = 0; z = αmax; s = αmax })
+unfolding step_opening
+opened n αmax h = rw (le-ltb 256 n h) refl
+
+module _ (dz ds z s : List Float) (αmax : Float) where
+  -- over one record more
+  abbrev pub turn : Ruling Walk → Cone → Ruling Walk
+  turn w c = step_further w c dz ds z s αmax
+
+  -- a walk that was refused stays so
+  stays : (cs : List Cone) (n : ℕ) → over_records turn cs (refuses n) ≡ refuses n
+  unfolding step_further
+  stays [] n = refl
+  stays (c ∷ cs) n = stays cs n
+
+  module _ (w : Walk) (c : Cone) where
+    -- a record that is refused ends the walk, whatever is left of the list
+    pub turned_away : (cs : List Cone) (r : Refusal) → number_of r ≡ bad_record w.total c → over_records turn cs (turn (gives w) c) ≡ refuses (number_of r)
+    unfolding step_further
+    turned_away cs r e = rw (← e) (go (number_of r) (numbered r))
+      where
+        go : (n : ℕ) → (n ≡ 0 → ⊥) → over_records turn cs (onward n w c.kind dz ds z s αmax) ≡ refuses n
+        go zero h = absurd (h refl)
+        go (suc n) h = stays cs (suc n)
+
+    -- or the walk goes on
+    pub went_on : 0 ≡ bad_record w.total c → turn (gives w) c ≡ gives (step_over w c.kind dz ds z s αmax)
+    unfolding step_further
+    went_on e = rw (← e) refl
+
+-- ---- a walk behind i records
 
 module _ (cs : List Cone) (dz ds z s : List Float) (αmax : Float) where
   -- no slice ends before n entries
@@ -62,8 +97,9 @@ module _ (cs : List Cone) (dz ds z s : List Float) (αmax : Float) where
     cut = rw (here, add-one i) (drop-cons cs i no_cone in_list)
 
     -- the next record is refused
-    pub behind_refused : (r : Refusal) → number_of r ≡ bad_record w.total c → tells (refuses (number_of r)) tt ≡ list_step_length cs dz ds z s αmax
-    behind_refused r e = refused r _ _ _ (refused_first _ r (refused_first _ r (rw (h.left, cut) (refused_first _ r e))))
+    pub behind_refused : (n : ℕ) → suc n ≡ bad_record w.total c → tells (refuses (suc n)) tt ≡ list_step_length cs dz ds z s αmax
+    unfolding call_of ◌⊳◌
+    behind_refused n e = rw (h.left, cut, ← e) refl
 
     -- or it is passed
     pub behind_turn : 0 ≡ bad_record w.total c → Behind (i + 1) (step_over w c.kind dz ds z s αmax)
@@ -114,6 +150,37 @@ module _ (cs : List Cone) (dz ds z s : List Float) (αmax : Float) where
       let f = all_fit (fitting (entries_of cs)) (clear_lengths _ (clear_both _ _ e).0) in
       let l = rw all at h.least (omega (arith, f.0), omega (arith, f.1.0), omega (arith, f.1.1.0), omega (arith, f.1.1.1.0)) in
       lengths_are (l.0 ∙ sym (list_loop least_of αmax (step_of_cone least_of cs z dz) (length cs))) (l.1 ∙ sym (list_loop least_of αmax (step_of_cone least_of cs s ds) (length cs)))))
+
+  -- what is left of a walk, at record i, comes to the list step
+  abbrev Comes : ℕ → Ruling Walk → Type 0
+  Comes i w = step_closing (rest (turn dz ds z s αmax) cs i w) dz ds z s αmax ≡ list_step_length cs dz ds z s αmax
+
+  -- so it does behind any i records, n before the end
+  from_here : (n i : ℕ) (w : Walk) → n + i ≡ length cs → Behind i w → Comes i (gives w)
+  unfolding step_further
+  from_here zero i w e h = rw (ended (turn dz ds z s αmax) cs i (gives w) (omega arith)) (walked h (omega arith))
+  from_here (suc n) i w e h = rw (turned (turn dz ds z s αmax) cs i (gives w) in_list) (go (bad_record w.total c) refl (from_here n (i + 1)))
+    where
+      c : Cone
+      c = get_or cs i no_cone
+
+      in_list : i < length cs
+      in_list = omega arith
+
+      go : (k : ℕ) → k ≡ bad_record w.total c → ((w : Walk) → n + (i + 1) ≡ length cs → Behind (i + 1) w → Comes (i + 1) (gives w)) → Comes (i + 1) (onward k w c.kind dz ds z s αmax)
+      go zero f on = on _ (omega arith) (behind_turn h in_list refl f)
+      go (suc k) f on = rw (stays dz ds z s αmax (drop (i + 1) cs) (suc k)) (behind_refused h in_list refl k f)
+
+-- from its opening on it does
+pub closes : (cs : List Cone) (dz ds z s : List Float) (αmax : Float)
+    → step_closing (over_records (λ w c. step_further w c dz ds z s αmax) cs (step_opening (length cs) αmax)) dz ds z s αmax ≡ list_step_length cs dz ds z s αmax
+unfolding step_opening
+closes cs dz ds z s αmax = go (ltb 256 (length cs)) refl
+  where
+    go : (t : Bool) → ltb 256 (length cs) ≡ t
+        → step_closing (over_records (turn dz ds z s αmax) cs (cond t (refuses 2) (gives (record { total = 0; z = αmax; s = αmax })))) dz ds z s αmax ≡ list_step_length cs dz ds z s αmax
+    go true e = rw (stays dz ds z s αmax cs 2) (too_many cs dz ds z s αmax (ltb-true 256 (length cs) e))
+    go false e = from_here cs dz ds z s αmax (length cs) 0 _ (omega arith) (behind_start cs dz ds z s αmax (ltb-false 256 (length cs) e))
 
 -- ---- for the check: what a record that is not refused has; n is what `dim` gave
 
