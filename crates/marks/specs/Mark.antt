@@ -1,5 +1,5 @@
 -- Document 02, item 4: a cone's mark, "Fresh, Identity or Scaled", as a number, and 8, the refusal of an unfit one. Assumes nothing.
-use Rattle.std.specs.Prelude.{ℕ, cond, ◌||◌, eqb}
+use Rattle.std.specs.Prelude.{ℕ, ◌≡◌, cond, ◌||◌, eqb}
 use Rattle.marks.specs.declared.Mark.{Mark}
 use Rattle.marks.specs.declared.Mark.TheVariants.{Fresh, Identity, Scaled}
 use Rattle.conelist.specs.declared.Kind.{Kind}
@@ -9,10 +9,18 @@ use Rattle.conelist.specs.declared.Kind.TheVariants.{Nonnegative, SecondOrder}
 unfoldable pub read_mark : ℕ → Mark
 read_mark n = cond (eqb n 1) Identity (cond (eqb n 2) Scaled Fresh)
 
+-- what `Mark::from` gives of a number
+abbrev pub IsMark : ℕ → Mark → Type 0
+IsMark n mark = mark ≡ read_mark n
+
 abbrev pub mark_number : Mark → ℕ
 mark_number Fresh = 0
 mark_number Identity = 1
 mark_number Scaled = 2
+
+-- what `u8::from` gives of a mark
+abbrev pub IsMarkNumber : Mark → ℕ → Type 0
+IsMarkNumber mark n = n ≡ mark_number mark
 
 abbrev pub identity_mark : ℕ
 identity_mark = 1

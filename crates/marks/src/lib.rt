@@ -4,7 +4,7 @@
 
 ghost use Rattle.std.specs.Prelude.{◌<◌, ◌≡◌, cond, length, get_or, set};
 ghost use Rattle.answers.specs.Refusal.{number_in};
-ghost use Rattle.marks.specs.Mark.{mark_number, read_mark, scaled_mark, unset, unscaled, offset_unscaled};
+ghost use Rattle.marks.specs.Mark.{IsMark, IsMarkNumber, read_mark, scaled_mark, unset, unscaled, offset_unscaled};
 
 use answers::Refusal;
 use conelist::{Kind, Place};
@@ -17,7 +17,7 @@ pub enum Mark {
 }
 
 impl From<u8> for Mark {
-    ghost from_gives = { λ n mark. mark ≡ read_mark n };
+    ghost from_gives = { IsMark };
 
     fn from(n: u8) -> Mark {
         match n {
@@ -29,7 +29,7 @@ impl From<u8> for Mark {
 }
 
 impl From<Mark> for u8 {
-    ghost from_gives = { λ mark n. n ≡ mark_number mark };
+    ghost from_gives = { IsMarkNumber };
 
     fn from(mark: Mark) -> u8 {
         match mark {
