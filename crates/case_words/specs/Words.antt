@@ -1,5 +1,7 @@
 -- What the words of a line say behind the row of records (docs/CASES.md): its slices. Assumes nothing.
-use Rattle.std.specs.Prelude.{ℕ, ◌+◌, ◌-◌, cond, List, ◌++◌, ltb, leb, eqb, length, get_or, drop, Result, Ok, Err}
+use Rattle.std.specs.Prelude.{ℕ, ◌+◌, ◌-◌, ◌%◌, cond, List, ◌++◌, ltb, leb, eqb, length, get_or, drop, Result, Ok, Err, Float}
+use Rattle.std.specs.Float.{binary64}
+use Rattle.std.specs.Float.Ieee.{of_bits}
 use Rattle.vecmath.specs.Vector.{each, fold_of}
 use Rattle.cases.specs.declared.Fault.{Fault}
 use Rattle.cases.specs.declared.Fault.TheVariants.{MissingWords, LongSlice, WordsLeftOver}
@@ -32,6 +34,14 @@ abbrev pub left : List ℕ → Result Cut Fault → Result (Unit {0}) Fault
 left words (Ok had) = cond (eqb had.at (length words)) (Ok tt) (Err WordsLeftOver)
 left words (Err f) = Err f
 
--- the entries, each told by one word, and behind them what was there. Of doubles by its bits, of marks by its word's last byte
+-- the double that a word tells, by its bits
+abbrev pub double_of_word : ℕ → Float
+double_of_word word = of_bits binary64 word
+
+-- the mark that a word tells, by its last byte
+abbrev pub mark_of_word : ℕ → ℕ
+mark_of_word word = word % 256
+
+-- the entries, each told by one word, and behind them what was there
 unfoldable pub entries : {A : Type 0} → (ℕ → A) → List ℕ → List A → List A
 entries entry words y = each (length words) (λ i. entry (get_or words i 0)) ++ drop (length words) y

@@ -2,10 +2,10 @@
 // ported.
 #![tactic(auto)]
 
-ghost use Rattle.std.specs.Prelude.{◌≡◌, ℕ, ◌≤◌, ◌%◌, length};
+ghost use Rattle.std.specs.Prelude.{◌≡◌, ℕ, ◌≤◌, length};
 ghost use Rattle.std.specs.Float.{binary64};
 ghost use Rattle.std.specs.Float.Ieee.{of_bits};
-ghost use Rattle.case_words.specs.Words.{slice, nth, left, entries};
+ghost use Rattle.case_words.specs.Words.{slice, nth, left, double_of_word, mark_of_word, entries};
 
 use cases::Fault;
 
@@ -85,7 +85,7 @@ pub trait Entry: Copy {
 }
 
 impl Entry for f64 {
-    ghost entry = { of_bits binary64 };
+    ghost entry = { double_of_word };
 
     fn of_word(word: u64) -> f64 {
         double(word)
@@ -94,7 +94,7 @@ impl Entry for f64 {
 
 // A mark: the word's last byte.
 impl Entry for u8 {
-    ghost entry = { λ word. word % 256 };
+    ghost entry = { mark_of_word };
 
     fn of_word(word: u64) -> u8 {
         (word % 256) as u8

@@ -4,7 +4,8 @@
 #![tactic(auto, using(std::proofs::lemmas::Bool::Decides::nat_tests), unfolding(crate::specs::Text::digit, crate::specs::Text::grown, crate::specs::Text::ends, crate::specs::Text::takes, crate::specs::Text::closes))]
 
 ghost use Rattle.std.specs.Prelude.{◌≡◌, ◌<◌, ◌+◌, ◌*◌, IfOk, Ok};
-ghost use Rattle.cases.specs.Text.{Counts, digit, blank, grown, ends, takes, closes};
+ghost use Rattle.cases.specs.declared.Fault.{Fault};
+ghost use Rattle.cases.specs.Text.{Counts, number_of, digit, blank, grown, ends, takes, closes};
 
 use std::error::Error;
 use std::fmt;
@@ -45,6 +46,43 @@ impl fmt::Display for Fault {
 
 impl Error for Fault {}
 
+// A type of faults that a line can carry: a caller's own, where those of the line's text are told among them.
+pub trait OfText {
+    ghost of_fault: { Fault → Self };
+
+    fn of_fault(fault: Fault) -> Self
+        ensures { result ≡ of_fault fault };
+}
+
+impl OfText for Fault {
+    ghost of_fault = { λ fault. fault };
+
+    fn of_fault(fault: Fault) -> Fault {
+        fault
+    }
+}
+
+// A fault by its number; any other number is a caller's own.
+impl OfText for u8 {
+    ghost of_fault = { number_of };
+
+    fn of_fault(fault: Fault) -> u8 {
+        match fault {
+            Fault::NoDigit => 1,
+            Fault::EmptyWord => 2,
+            Fault::LongWord => 3,
+            Fault::TooManyWords => 4,
+            Fault::NoSuchCall => 5,
+            Fault::MissingWords => 6,
+            Fault::LongSlice => 7,
+            Fault::LongRow => 8,
+            Fault::WordsLeftOver => 9,
+            Fault::NotOneEntry => 10,
+            Fault::NoLineEnd => 11,
+        }
+    }
+}
+
 // What is read of a line: how many words are whole, how many digits the next has so far and what they come to.
 #[derive(Drop)]
 pub struct Line {
@@ -65,24 +103,24 @@ pub fn start() -> Line
 }
 
 // What a digit stands for. The library's `to_digit` takes capitals too.
-fn digit(b: u8) -> Result<u8, Fault>
-    ensures value { result ≡ digit b }
+fn digit<F: OfText>(b: u8) -> Result<u8, F>
+    ensures value { result ≡ digit F.of_fault b }
     ensures small { IfOk result (λ d. d < 16) }
 {
     match b {
         b'0'..=b'9' => Ok(b - b'0'),
         b'a'..=b'f' => Ok(b - b'a' + 10),
-        _ => Err(Fault::NoDigit),
+        _ => Err(F::of_fault(Fault::NoDigit)),
     }
 }
 
 // The line with one digit more. The test of the word is behind that of the digits; it is what the product asks for.
-fn grown(line: Line, b: u8) -> Result<Line, Fault>
-    ensures { result ≡ grown b line }
+fn grown<F: OfText>(line: Line, b: u8) -> Result<Line, F>
+    ensures { result ≡ grown F.of_fault b line }
 {
-    let d = digit(b)?;
+    let d = digit::<F>(b)?;
     if (15 < line.digits) | (0xfff_ffff_ffff_ffff < line.word) {
-        return Err(Fault::LongWord);
+        return Err(F::of_fault(Fault::LongWord));
     }
     Ok(Line {
         count: line.count,
@@ -92,16 +130,16 @@ fn grown(line: Line, b: u8) -> Result<Line, Fault>
 }
 
 // The line at the end of a word, which goes to its place.
-fn ended(line: Line, words: &mut [u64]) -> Result<Line, Fault>
-    ensures words_after { record { line = result; words = words.new } ≡ ends line words.old }
+fn ended<F: OfText>(line: Line, words: &mut [u64]) -> Result<Line, F>
+    ensures words_after { record { line = result; words = words.new } ≡ ends F.of_fault line words.old }
     ensures counts { IfOk result (λ line. Counts line.count words.new) }
 {
     if line.digits == 0 {
-        return Err(Fault::EmptyWord);
+        return Err(F::of_fault(Fault::EmptyWord));
     }
     let at = line.count;
     if words.len() <= at {
-        return Err(Fault::TooManyWords);
+        return Err(F::of_fault(Fault::TooManyWords));
     }
     words[at] = line.word;
     Ok(Line {
@@ -112,8 +150,8 @@ fn ended(line: Line, words: &mut [u64]) -> Result<Line, Fault>
 }
 
 // The line with one byte more, which is no line end. A line that is damaged stays so.
-pub fn take(line: Result<Line, Fault>, b: u8, words: &mut [u64]) -> Result<Line, Fault>
-    ensures { record { line = result; words = words.new } ≡ takes b line words.old }
+pub fn take<F: OfText>(line: Result<Line, F>, b: u8, words: &mut [u64]) -> Result<Line, F>
+    ensures { record { line = result; words = words.new } ≡ takes F.of_fault b line words.old }
 {
     let line = line?;
     if b == b' ' {
@@ -123,8 +161,8 @@ pub fn take(line: Result<Line, Fault>, b: u8, words: &mut [u64]) -> Result<Line,
 }
 
 // The line at its end, which ends a word too. What is wrong with it stays.
-pub fn end(line: Result<Line, Fault>, words: &mut [u64]) -> Result<Line, Fault>
-    ensures words_after { record { line = result; words = words.new } ≡ closes line words.old }
+pub fn end<F: OfText>(line: Result<Line, F>, words: &mut [u64]) -> Result<Line, F>
+    ensures words_after { record { line = result; words = words.new } ≡ closes F.of_fault line words.old }
     ensures counts { IfOk result (λ line. Counts line.count words.new) }
 {
     ended(line?, words)
