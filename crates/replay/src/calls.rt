@@ -1,7 +1,7 @@
 // Each call once, with its parameters in order, told: the answer, then what the slices hold that it writes. Of our own; nothing is ported.
 //
-// What a call reads is lent of the numbers of all the words; each slice that it writes, of a copy of its own. A call has the file's number
-// (docs/CASES.md), and a match the calls of one form; a table of them would need one type of all forms.
+// What a call reads is lent of the numbers of all the words, its marks of theirs; each slice that it writes, of a copy of its own. A call has
+// the file's number (docs/CASES.md), and a match the calls of one form; a table of them would need one type of all forms.
 use crate::case::Case;
 use answers::{Refusal, StepPair};
 use std::io;
@@ -49,14 +49,30 @@ fn steps(c: &Case, dz: &[f64], ds: &[f64], z: &[f64], s: &[f64]) -> Result<StepP
     }
 }
 
-fn reads_four<W: Write>(out: &mut W, c: &Case) -> io::Result<()> {
-    case_answers::answer(out, steps(c, c.lent(1), c.lent(2), c.lent(3), c.lent(4)))
+fn reads_four<W: Write>(out: &mut W, c: &Case, numbers: &[f64; 1400]) -> io::Result<()> {
+    case_answers::answer(
+        out,
+        steps(
+            c,
+            c.part(numbers, 1),
+            c.part(numbers, 2),
+            c.part(numbers, 3),
+            c.part(numbers, 4),
+        ),
+    )
 }
 
-fn list_square<W: Write>(out: &mut W, c: &Case) -> io::Result<()> {
+fn list_square<W: Write>(out: &mut W, c: &Case, numbers: &[f64; 1400]) -> io::Result<()> {
+    let mut marks = [0u8; 1400];
+    c.entries(&mut marks);
     case_answers::square(
         out,
-        list_square::square_hs_at(c.place, c.lent(1), c.lent(2), c.part(&c.marks, 3)),
+        list_square::square_hs_at(
+            c.place,
+            c.part(numbers, 1),
+            c.part(numbers, 2),
+            c.part(&marks, 3),
+        ),
     )
 }
 
@@ -119,39 +135,45 @@ fn second_order_from_three(
     }
 }
 
-fn from_three(c: &Case, y: &mut [f64], x: &[f64], w: &[f64]) -> Result<(), Refusal> {
-    let eta = c.number(3);
-    second_order_from_three(c, y, x, w, eta, c.number(4))
+fn from_three(
+    c: &Case,
+    numbers: &[f64; 1400],
+    y: &mut [f64],
+    x: &[f64],
+    w: &[f64],
+) -> Result<(), Refusal> {
+    let eta = c.number(numbers, 3);
+    second_order_from_three(c, y, x, w, eta, c.number(numbers, 4))
 }
 
-fn one(c: &Case, x: &mut [f64]) -> Result<(), Refusal> {
-    let y = c.lent(2);
-    let z = c.lent(3);
+fn one(c: &Case, numbers: &[f64; 1400], x: &mut [f64]) -> Result<(), Refusal> {
+    let y = c.part(numbers, 2);
+    let z = c.part(numbers, 3);
     match c.shape.slices {
         1 => from_none(c, x),
         2 => from_one(c, x, y),
         3 => from_two(c, x, y, z),
-        _ => from_three(c, x, y, z),
+        _ => from_three(c, numbers, x, y, z),
     }
 }
 
-fn writes_one<W: Write>(out: &mut W, c: &Case) -> io::Result<()> {
-    let mut own = c.numbers;
-    case_answers::answer(out, one(c, c.part_mut(&mut own, 1)))?;
+fn writes_one<W: Write>(out: &mut W, c: &Case, numbers: &[f64; 1400]) -> io::Result<()> {
+    let mut own = *numbers;
+    case_answers::answer(out, one(c, numbers, c.part_mut(&mut own, 1)))?;
     c.tell(out, &own, 1)
 }
 
-fn second_order_offset<W: Write>(out: &mut W, c: &Case) -> io::Result<()> {
-    let mut own1 = c.numbers;
-    let eta = c.number(6);
+fn second_order_offset<W: Write>(out: &mut W, c: &Case, numbers: &[f64; 1400]) -> io::Result<()> {
+    let mut own1 = *numbers;
+    let eta = c.number(numbers, 6);
     case_answers::answer(
         out,
         soc_offset::soc_ds_from_dz_offset(
             c.part_mut(&mut own1, 1),
-            c.lent(2),
-            c.lent(3),
-            c.lent(4),
-            c.lent(5),
+            c.part(numbers, 2),
+            c.part(numbers, 3),
+            c.part(numbers, 4),
+            c.part(numbers, 5),
             &eta,
         ),
     )?;
@@ -159,10 +181,10 @@ fn second_order_offset<W: Write>(out: &mut W, c: &Case) -> io::Result<()> {
 }
 
 // One cone of a list, whose mark is read.
-fn list_one(c: &Case, marks: &[u8], x: &mut [f64]) -> Result<(), Refusal> {
-    let y = c.lent(2);
-    let z = c.lent(3);
-    let w = c.lent(4);
+fn list_one(c: &Case, numbers: &[f64; 1400], marks: &[u8], x: &mut [f64]) -> Result<(), Refusal> {
+    let y = c.part(numbers, 2);
+    let z = c.part(numbers, 3);
+    let w = c.part(numbers, 4);
     match c.call {
         0x305 => list_blocks::get_hs_at(c.place, x, y, z, w, marks),
         0x307 => list_mul_hs::mul_hs_at(c.place, x, y, z, w, marks),
@@ -173,8 +195,8 @@ fn list_one(c: &Case, marks: &[u8], x: &mut [f64]) -> Result<(), Refusal> {
             y,
             z,
             w,
-            c.lent(5),
-            c.lent(6),
+            c.part(numbers, 5),
+            c.part(numbers, 6),
             marks,
         ),
         0x30c => list_products::mul_w_at(c.place, x, y, c.a, c.b, z, w, marks),
@@ -183,13 +205,16 @@ fn list_one(c: &Case, marks: &[u8], x: &mut [f64]) -> Result<(), Refusal> {
     }
 }
 
-fn list_writes_one<W: Write>(out: &mut W, c: &Case) -> io::Result<()> {
-    let mut own1 = c.numbers;
+fn list_writes_one<W: Write>(out: &mut W, c: &Case, numbers: &[f64; 1400]) -> io::Result<()> {
+    let mut own1 = *numbers;
+    let mut marks = [0u8; 1400];
+    c.entries(&mut marks);
     case_answers::answer(
         out,
         list_one(
             c,
-            c.part(&c.marks, c.shape.slices),
+            numbers,
+            c.part(&marks, c.shape.slices),
             c.part_mut(&mut own1, 1),
         ),
     )?;
@@ -206,8 +231,8 @@ fn units(c: &Case, z: &mut [f64], s: &mut [f64]) -> Result<(), Refusal> {
     }
 }
 
-fn writes_two<W: Write>(out: &mut W, c: &Case) -> io::Result<()> {
-    let mut own1 = c.numbers;
+fn writes_two<W: Write>(out: &mut W, c: &Case, numbers: &[f64; 1400]) -> io::Result<()> {
+    let mut own1 = *numbers;
     let mut own2 = own1;
     case_answers::answer(
         out,
@@ -217,11 +242,11 @@ fn writes_two<W: Write>(out: &mut W, c: &Case) -> io::Result<()> {
     c.tell(out, &own2, 2)
 }
 
-fn second_order_combined<W: Write>(out: &mut W, c: &Case) -> io::Result<()> {
-    let mut own1 = c.numbers;
+fn second_order_combined<W: Write>(out: &mut W, c: &Case, numbers: &[f64; 1400]) -> io::Result<()> {
+    let mut own1 = *numbers;
     let mut own2 = own1;
     let mut own3 = own1;
-    let eta = c.number(5);
+    let eta = c.number(numbers, 5);
     case_answers::answer(
         out,
         soc_combined::soc_combined_ds_shift(
@@ -229,7 +254,7 @@ fn second_order_combined<W: Write>(out: &mut W, c: &Case) -> io::Result<()> {
             c.part_mut(&mut own2, 2),
             c.part_mut(&mut own3, 3),
             c.a,
-            c.lent(4),
+            c.part(numbers, 4),
             &eta,
         ),
     )?;
@@ -238,8 +263,8 @@ fn second_order_combined<W: Write>(out: &mut W, c: &Case) -> io::Result<()> {
     c.tell(out, &own3, 3)
 }
 
-fn nonnegative_combined<W: Write>(out: &mut W, c: &Case) -> io::Result<()> {
-    let mut own1 = c.numbers;
+fn nonnegative_combined<W: Write>(out: &mut W, c: &Case, numbers: &[f64; 1400]) -> io::Result<()> {
+    let mut own1 = *numbers;
     let mut own2 = own1;
     let mut own3 = own1;
     case_answers::answer(
@@ -249,7 +274,7 @@ fn nonnegative_combined<W: Write>(out: &mut W, c: &Case) -> io::Result<()> {
             c.part_mut(&mut own2, 2),
             c.part_mut(&mut own3, 3),
             c.a,
-            c.lent(4),
+            c.part(numbers, 4),
         ),
     )?;
     c.tell(out, &own1, 1)?;
@@ -257,10 +282,12 @@ fn nonnegative_combined<W: Write>(out: &mut W, c: &Case) -> io::Result<()> {
     c.tell(out, &own3, 3)
 }
 
-fn list_combined<W: Write>(out: &mut W, c: &Case) -> io::Result<()> {
-    let mut own1 = c.numbers;
+fn list_combined<W: Write>(out: &mut W, c: &Case, numbers: &[f64; 1400]) -> io::Result<()> {
+    let mut own1 = *numbers;
     let mut own2 = own1;
     let mut own3 = own1;
+    let mut marks = [0u8; 1400];
+    c.entries(&mut marks);
     case_answers::answer(
         out,
         list_shifts::combined_ds_shift_at(
@@ -269,9 +296,9 @@ fn list_combined<W: Write>(out: &mut W, c: &Case) -> io::Result<()> {
             c.part_mut(&mut own2, 2),
             c.part_mut(&mut own3, 3),
             c.a,
-            c.lent(4),
-            c.lent(5),
-            c.part(&c.marks, 6),
+            c.part(numbers, 4),
+            c.part(numbers, 5),
+            c.part(&marks, 6),
         ),
     )?;
     c.tell(out, &own1, 1)?;
@@ -279,12 +306,12 @@ fn list_combined<W: Write>(out: &mut W, c: &Case) -> io::Result<()> {
     c.tell(out, &own3, 3)
 }
 
-fn second_order_identity<W: Write>(out: &mut W, c: &Case) -> io::Result<()> {
-    let mut own1 = c.numbers;
+fn second_order_identity<W: Write>(out: &mut W, c: &Case, numbers: &[f64; 1400]) -> io::Result<()> {
+    let mut own1 = *numbers;
     let mut own2 = own1;
     let mut own3 = own1;
-    let mut eta = c.number(4);
-    let mut d = c.number(5);
+    let mut eta = c.number(numbers, 4);
+    let mut d = c.number(numbers, 5);
     case_answers::answer(
         out,
         soc_identity::soc_set_identity_scaling(
@@ -302,13 +329,14 @@ fn second_order_identity<W: Write>(out: &mut W, c: &Case) -> io::Result<()> {
     case_answers::contents(out, &[d])
 }
 
-fn list_identity<W: Write>(out: &mut W, c: &Case) -> io::Result<()> {
-    let mut own1 = c.numbers;
+fn list_identity<W: Write>(out: &mut W, c: &Case, numbers: &[f64; 1400]) -> io::Result<()> {
+    let mut own1 = *numbers;
     let mut own2 = own1;
     let mut own3 = own1;
     let mut own4 = own1;
     let mut own5 = own1;
-    let mut own6 = c.marks;
+    let mut own6 = [0u8; 1400];
+    c.entries(&mut own6);
     case_answers::answer(
         out,
         list_identity::set_identity_scaling_at(
@@ -330,18 +358,18 @@ fn list_identity<W: Write>(out: &mut W, c: &Case) -> io::Result<()> {
 }
 
 // An update of a scaling reads two slices first.
-fn second_order_scaling<W: Write>(out: &mut W, c: &Case) -> io::Result<()> {
-    let mut own3 = c.numbers;
+fn second_order_scaling<W: Write>(out: &mut W, c: &Case, numbers: &[f64; 1400]) -> io::Result<()> {
+    let mut own3 = *numbers;
     let mut own4 = own3;
     let mut own5 = own3;
     let mut own6 = own3;
-    let mut eta = c.number(7);
-    let mut d = c.number(8);
+    let mut eta = c.number(numbers, 7);
+    let mut d = c.number(numbers, 8);
     case_answers::answer(
         out,
         soc_scaling::soc_update_scaling(
-            c.lent(1),
-            c.lent(2),
+            c.part(numbers, 1),
+            c.part(numbers, 2),
             c.part_mut(&mut own3, 3),
             c.part_mut(&mut own4, 4),
             c.part_mut(&mut own5, 5),
@@ -350,8 +378,8 @@ fn second_order_scaling<W: Write>(out: &mut W, c: &Case) -> io::Result<()> {
             &mut d,
         ),
     )?;
-    c.tell(out, &c.numbers, 1)?;
-    c.tell(out, &c.numbers, 2)?;
+    c.tell(out, numbers, 1)?;
+    c.tell(out, numbers, 2)?;
     c.tell(out, &own3, 3)?;
     c.tell(out, &own4, 4)?;
     c.tell(out, &own5, 5)?;
@@ -360,20 +388,20 @@ fn second_order_scaling<W: Write>(out: &mut W, c: &Case) -> io::Result<()> {
     case_answers::contents(out, &[d])
 }
 
-fn nonnegative_scaling<W: Write>(out: &mut W, c: &Case) -> io::Result<()> {
-    let mut own3 = c.numbers;
+fn nonnegative_scaling<W: Write>(out: &mut W, c: &Case, numbers: &[f64; 1400]) -> io::Result<()> {
+    let mut own3 = *numbers;
     let mut own4 = own3;
     case_answers::answer(
         out,
         nn_scaling::nn_update_scaling(
-            c.lent(1),
-            c.lent(2),
+            c.part(numbers, 1),
+            c.part(numbers, 2),
             c.part_mut(&mut own3, 3),
             c.part_mut(&mut own4, 4),
         ),
     )?;
-    c.tell(out, &c.numbers, 1)?;
-    c.tell(out, &c.numbers, 2)?;
+    c.tell(out, numbers, 1)?;
+    c.tell(out, numbers, 2)?;
     c.tell(out, &own3, 3)?;
     c.tell(out, &own4, 4)
 }
@@ -405,19 +433,20 @@ fn scaled<W: Write>(
     }
 }
 
-fn list_scaling<W: Write>(out: &mut W, c: &Case) -> io::Result<()> {
-    let mut own3 = c.numbers;
+fn list_scaling<W: Write>(out: &mut W, c: &Case, numbers: &[f64; 1400]) -> io::Result<()> {
+    let mut own3 = *numbers;
     let mut own4 = own3;
     let mut own5 = own3;
     let mut own6 = own3;
     let mut own7 = own3;
     let mut own8 = own3;
-    let mut own9 = c.marks;
+    let mut own9 = [0u8; 1400];
+    c.entries(&mut own9);
     scaled(
         out,
         c,
-        c.lent(1),
-        c.lent(2),
+        c.part(numbers, 1),
+        c.part(numbers, 2),
         c.part_mut(&mut own3, 3),
         c.part_mut(&mut own4, 4),
         c.part_mut(&mut own5, 5),
@@ -426,8 +455,8 @@ fn list_scaling<W: Write>(out: &mut W, c: &Case) -> io::Result<()> {
         c.part_mut(&mut own8, 8),
         c.part_mut(&mut own9, 9),
     )?;
-    c.tell(out, &c.numbers, 1)?;
-    c.tell(out, &c.numbers, 2)?;
+    c.tell(out, numbers, 1)?;
+    c.tell(out, numbers, 2)?;
     c.tell(out, &own3, 3)?;
     c.tell(out, &own4, 4)?;
     c.tell(out, &own5, 5)?;
@@ -439,58 +468,67 @@ fn list_scaling<W: Write>(out: &mut W, c: &Case) -> io::Result<()> {
 
 // ---- each by what it writes
 
-fn writes_three<W: Write>(out: &mut W, c: &Case) -> io::Result<()> {
+fn writes_three<W: Write>(out: &mut W, c: &Case, numbers: &[f64; 1400]) -> io::Result<()> {
     match c.call {
-        0x109 => second_order_combined(out, c),
-        0x209 => nonnegative_combined(out, c),
-        _ => list_combined(out, c),
+        0x109 => second_order_combined(out, c, numbers),
+        0x209 => nonnegative_combined(out, c, numbers),
+        _ => list_combined(out, c, numbers),
     }
 }
 
-fn writes_most<W: Write>(out: &mut W, c: &Case) -> io::Result<()> {
+fn writes_most<W: Write>(out: &mut W, c: &Case, numbers: &[f64; 1400]) -> io::Result<()> {
     match c.call {
-        0x103 => second_order_identity(out, c),
-        0x303 => list_identity(out, c),
-        0x104 => second_order_scaling(out, c),
-        _ => list_scaling(out, c),
+        0x103 => second_order_identity(out, c, numbers),
+        0x303 => list_identity(out, c, numbers),
+        0x104 => second_order_scaling(out, c, numbers),
+        _ => list_scaling(out, c, numbers),
     }
 }
 
-fn writes_none<W: Write>(out: &mut W, c: &Case) -> io::Result<()> {
-    let x = c.lent(1);
-    let y = c.lent(2);
+fn writes_none<W: Write>(out: &mut W, c: &Case, numbers: &[f64; 1400]) -> io::Result<()> {
+    let x = c.part(numbers, 1);
+    let y = c.part(numbers, 2);
     match c.shape.slices {
         0 => case_answers::answer(out, Ok(number(c))),
         1 => reads_one(out, c, x),
-        2 => reads_two(out, c, x, y, c.number(2)),
-        3 => list_square(out, c),
-        _ => reads_four(out, c),
+        2 => reads_two(out, c, x, y, c.number(numbers, 2)),
+        3 => list_square(out, c, numbers),
+        _ => reads_four(out, c, numbers),
     }
 }
 
-fn run<W: Write>(out: &mut W, c: &Case) -> io::Result<()> {
+fn run<W: Write>(out: &mut W, c: &Case, numbers: &[f64; 1400]) -> io::Result<()> {
     match c.shape.written {
-        0 => writes_none(out, c),
+        0 => writes_none(out, c, numbers),
         1 => if c.shape.marked {
-            list_writes_one(out, c)
+            list_writes_one(out, c, numbers)
         } else if c.shape.slices == 6 {
-            second_order_offset(out, c)
+            second_order_offset(out, c, numbers)
         } else {
-            writes_one(out, c)
+            writes_one(out, c, numbers)
         },
         2 => if c.shape.slices == 2 {
-            writes_two(out, c)
+            writes_two(out, c, numbers)
         } else {
-            nonnegative_scaling(out, c)
+            nonnegative_scaling(out, c, numbers)
         },
-        3 => writes_three(out, c),
-        _ => writes_most(out, c),
+        3 => writes_three(out, c, numbers),
+        _ => writes_most(out, c, numbers),
     }
+}
+
+// The marks as they were read.
+fn tell_marks<W: Write>(out: &mut W, c: &Case) -> io::Result<()> {
+    let mut marks = [0u8; 1400];
+    c.entries(&mut marks);
+    c.tell(out, &marks, c.shape.slices)
 }
 
 // A case run, and told in one line: the slices that the call only reads are told as they were read.
 pub fn made<W: Write>(out: &mut W, c: &Case) -> io::Result<()> {
-    run(out, c)?;
+    let mut numbers = [0.0; 1400];
+    c.entries(&mut numbers);
+    run(out, c, &numbers)?;
     let slices = c.shape.slices;
     // an update of a scaling has told all its slices, any other call those that it writes, which come first
     let told = if (c.call % 256 == 4) | (c.call == 0x313) {
@@ -500,9 +538,9 @@ pub fn made<W: Write>(out: &mut W, c: &Case) -> io::Result<()> {
     };
     for k in told..slices {
         if c.shape.marked & (k + 1 == slices) {
-            c.tell(out, &c.marks, slices)?;
+            tell_marks(out, c)?;
         } else {
-            c.tell(out, &c.numbers, k + 1)?;
+            c.tell(out, &numbers, k + 1)?;
         }
     }
     writeln!(out)

@@ -128,7 +128,7 @@ fn of_list(operation: u64) -> Option<Shape> {
 
 // Above the last two digits of a call's number stands whose it is: 0 the numbers', 1 the second-order cone's, 2 the nonnegative cone's, 3 a
 // list's.
-fn shape_of(call: u64) -> Result<Shape, Fault> {
+pub fn shape_of(call: u64) -> Result<Shape, Fault> {
     let operation = call % 256;
     let shape = match call / 256 {
         0 if operation < 3 => Some(takes(0)),
@@ -142,9 +142,9 @@ fn shape_of(call: u64) -> Result<Shape, Fault> {
 
 // ---- a case
 
-// The call's number, the call's numbers, the row of records, the cone of it that is named, and the words of the call's slices, with what each
-// tells as a number and as a mark.
-#[derive(Drop)]
+// The call's number, the call's numbers, the row of records, the cone of it that is named, and the words of the call's slices. Whoever runs
+// the call makes the words' numbers, and their marks where it takes them: a case that had both would pay for them at each copy.
+#[derive(Clone, Copy)]
 pub struct Case<'a> {
     pub call: u64,
     pub shape: Shape,
@@ -152,22 +152,11 @@ pub struct Case<'a> {
     pub b: f64,
     pub row: &'a [[usize; 3]],
     pub place: Place,
-    words: &'a [u64],
-    pub numbers: [f64; 1400],
-    pub marks: [u8; 1400],
-}
-
-// Each word's entry, at its own place.
-fn entries<T: Entry>(words: &[u64]) -> [T; 1400] {
-    let mut entries = [T::of_word(0); 1400];
-    if words.len() <= 1400 {
-        case_words::entries(words, &mut entries);
-    }
-    entries
+    pub words: &'a [u64],
 }
 
 // The words are those of the call's slices, of which the last ones are lent numbers.
-fn check(words: &[u64], shape: Shape) -> Result<(), Fault> {
+pub fn check(words: &[u64], shape: Shape) -> Result<(), Fault> {
     case_words::check_slices(words, shape.slices)?;
     for k in shape.slices.saturating_sub(shape.lent)..shape.slices {
         if case_words::nth(words, k + 1)?.length != 1 {
@@ -177,31 +166,14 @@ fn check(words: &[u64], shape: Shape) -> Result<(), Fault> {
     Ok(())
 }
 
-// The case that a whole line's words tell. Its row of records is put into `records`.
-pub fn read<'a>(words: &'a [u64], records: &'a mut [[usize; 3]; 260]) -> Result<Case<'a>, Fault> {
-    if words.len() < 5 {
-        return Err(Fault::MissingWords);
-    }
-    let shape = shape_of(words[0])?;
-    let behind = &words[5..];
-    let cut = case_rows::list_of(words[4] as usize, behind, records)?;
-    let row = &records[..cut.length];
-    let own = &behind[cut.at..];
-    check(own, shape)?;
-    Ok(Case {
-        call: words[0],
-        shape,
-        a: case_words::double(words[1]),
-        b: case_words::double(words[2]),
-        row,
-        place: conewalk::place_of(row, words[3] as usize),
-        words: own,
-        numbers: entries(own),
-        marks: entries(own),
-    })
-}
-
 impl Case<'_> {
+    // Each word's entry, at its own place in an array that is lent; one that is handed back would be copied.
+    pub fn entries<T: Entry>(&self, entries: &mut [T; 1400]) {
+        if self.words.len() <= 1400 {
+            case_words::entries(self.words, entries);
+        }
+    }
+
     // Where slice k lies among so many entries, counted from 1 on.
     fn range(&self, entries: usize, k: usize) -> Range<usize>
         ensures { (result.start ≤ result.end) × (result.end ≤ entries) }
@@ -224,14 +196,9 @@ impl Case<'_> {
         &mut entries[range.start..range.end]
     }
 
-    // Slice k as it was read.
-    pub fn lent(&self, k: usize) -> &[f64] {
-        self.part(&self.numbers, k)
-    }
-
     // The number that slice k is; 0 where it has no entry.
-    pub fn number(&self, k: usize) -> f64 {
-        match self.lent(k).first() {
+    pub fn number(&self, numbers: &[f64], k: usize) -> f64 {
+        match self.part(numbers, k).first() {
             Some(number) => *number,
             None => 0.0,
         }

@@ -3,6 +3,7 @@
 // answers of the crate that was ported, but for the step that document 02, item 3, mends. Of our own; nothing is ported.
 #![tactic(auto)]
 
+use case::Case;
 use cases::{Fault, Line};
 use std::io;
 use std::io::{BufReader, BufWriter, Read, Write};
@@ -12,6 +13,31 @@ mod case;
 
 fn damaged<W: Write>(out: &mut W, number: u64, fault: Fault) -> io::Result<()> {
     writeln!(out, "line {number}: damaged: {fault}")
+}
+
+// The case that a whole line's words tell, run and told; or what is wrong with them. The row's array stands behind the tests of the words and
+// the call, those of the entries behind all tests (calls), since a line pays for each array that it gets to.
+fn told<W: Write>(out: &mut W, words: &[u64]) -> Result<io::Result<()>, Fault> {
+    if words.len() < 5 {
+        return Err(Fault::MissingWords);
+    }
+    let shape = case::shape_of(words[0])?;
+    let behind = &words[5..];
+    let mut records = [[0; 3]; 260];
+    let cut = case_rows::list_of(words[4] as usize, behind, &mut records)?;
+    let row = &records[..cut.length];
+    let own = &behind[cut.at..];
+    case::check(own, shape)?;
+    let c = Case {
+        call: words[0],
+        shape,
+        a: case_words::double(words[1]),
+        b: case_words::double(words[2]),
+        row,
+        place: conewalk::place_of(row, words[3] as usize),
+        words: own,
+    };
+    Ok(calls::made(out, &c))
 }
 
 // A whole line, read into `words` but for its end.
@@ -25,9 +51,8 @@ fn line_end<W: Write>(
         Ok(line) => line.count,
         Err(fault) => return damaged(out, number, fault),
     };
-    let mut records = [[0; 3]; 260];
-    match case::read(&words[..n], &mut records) {
-        Ok(c) => calls::made(out, &c),
+    match told(out, &words[..n]) {
+        Ok(written) => written,
         Err(fault) => damaged(out, number, fault),
     }
 }
