@@ -8,6 +8,7 @@ use lib.Dec.{eqb}
 use Rattle.vecmath.proofs.Examples.{Line, ◌⇒◌, Right}
 use Rattle.answers.specs.Refusal.{◌⊳◌, unlike}
 use Rattle.answers.specs.Outcome.{Ruling, gives, refuses, call_of, Gives}
+use Rattle.answers.proofs.Laws.{clear_both}
 use Rattle.conelist.specs.declared.Kind.{Kind}
 use Rattle.conelist.specs.declared.Kind.TheVariants.{Nonnegative}
 use Rattle.conelist.specs.declared.Place.{Place}
@@ -95,9 +96,13 @@ front_fits (l ∷ ms) m n f = let r = front_fits ms m n f.1 in (r.0, (f.0, r.1))
 pub open_front : (p : Place) (ms : List (ℕ × ℕ)) (m n : ℕ) → Open p (ms ++ ((m, n) ∷ [])) → (m ≡ n) × Open p ms
 open_front p ms m n o = let r = front_fits ms m n o.same in (r.0, record { here = o.here; same = r.1 })
 
--- a call that reads a mark, behind its test of the lengths
-pub open_marked : (p : Place) (ms : List (ℕ × ℕ)) (m n : ℕ) → 0 ≡ refusal_at p (ms ++ ((m, n) ∷ [])) → Open p ms
-open_marked p ms m n e = (open_front p ms m n (open_at p (ms ++ ((m, n) ∷ [])) e)).1
+-- behind its test of the lengths
+pub open_tested : (p : Place) (ms : List (ℕ × ℕ)) (m n : ℕ) → 0 ≡ refusal_at p (ms ++ ((m, n) ∷ [])) → Open p ms
+open_tested p ms m n e = (open_front p ms m n (open_at p (ms ++ ((m, n) ∷ [])) e)).1
+
+-- k is the number of its refusal, with 8 or 0 behind the others
+pub open_marked : (p : Place) (ms : List (ℕ × ℕ)) (m n k unfit : ℕ) → k ≡ refusal_at p (ms ++ ((m, n) ∷ [])) ⊳ unfit → k ≡ 0 → Open p ms
+open_marked p ms m n k unfit e z = open_tested p ms m n (sym (clear_both _ _ (sym e ∙ z)).0)
 
 -- ---- the test ranks last, computed: with 8 for a mark of 0, and a deed that is lent nothing and refused with `six`
 

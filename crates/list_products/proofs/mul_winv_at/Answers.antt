@@ -1,7 +1,7 @@
 -- `list_products::mul_winv_at` meets its contract. Written by tools/surface. Assumes nothing.
 use lib.ListN.{length}
-use Rattle.conecalls.proofs.Marked.{open_marked}
+use Rattle.conecalls.proofs.Marked.{open_tested}
 use Rattle.list_products.proofs.mul_winv_at.Goals as goal
 
 pub mul_winv_in-requires : goal.mul_winv_in-requires
-mul_winv_in-requires c = let a = c.args in open_marked a.p _ (length a.marks.now) a.p.count c.in_ok-check.ensures
+mul_winv_in-requires c = let a = c.args in open_tested a.p _ (length a.marks.now) a.p.count c.in_ok-check.ensures
