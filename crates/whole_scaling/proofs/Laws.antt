@@ -41,7 +41,7 @@ pub record Small (p : Place) : Type 0 where
   pub next_start : p.start + dim p.kind ≤ 65536
   pub next_block : p.block + block_dim p.kind ≤ 196608
 
-in_range : (p : Place) → misplaced p ≡ 0 → Small p
+pub in_range : (p : Place) → misplaced p ≡ 0 → Small p
 unfolding misplaced
 in_range p e =
     let here = clear_misplaced p e in

@@ -30,7 +30,7 @@ use Rattle.whole_scaling.proofs.Laws.{stays}
 
 module _ (cs : List Cone) where
   -- where it stands behind k cones that answered true
-  abbrev next : ℕ → Kind → Place
+  abbrev pub next : ℕ → Kind → Place
   next k kind =
       record {
         no = 0;
@@ -46,12 +46,12 @@ module _ (cs : List Cone) where
   past : (k : ℕ) → past_of (next k (kind_of_cone cs k)) ≡ next (suc k) (kind_of_cone cs k)
   past k = rw (add-one k)
 
-  ahead : bad_list cs ≡ 0 → (k : ℕ) → k < length cs → next k (kind_of_cone cs k) ≡ place_of cs k
+  pub ahead : bad_list cs ≡ 0 → (k : ℕ) → k < length cs → next k (kind_of_cone cs k) ≡ place_of cs k
   unfolding place_of ◌⊳◌
   ahead e k l = let r = clear_both (cond (ltb 256 (length cs)) 2 0) (bad_records 0 cs) e in rw (r.0, r.1, lt-ltb k (length cs) l)
 
   -- what a list's place carries is the list's refusal
-  carries : (k : ℕ) → carried (place_of cs k) ≡ bad_place cs k
+  pub carries : (k : ℕ) → carried (place_of cs k) ≡ bad_place cs k
   unfolding place_of
   carries k = go (bad_place cs k) (spot cs k)
     where
@@ -103,17 +103,17 @@ module _ (s z w lambda u v η d : List Float) (marks : List ℕ) where
   abbrev held : Written
   held = w ⨾ lambda ⨾ u ⨾ v ⨾ η ⨾ d ⨾ marks ⨾ tt
 
-  abbrev five : Place → ℕ
+  abbrev pub five : Place → ℕ
   five p = unlike (fit_all (lengths_at p s z w lambda u v η d marks))
 
   -- the refusal's number, as the walk begins with it, and document 02's, which names no first cone
   abbrev first : List Cone → Place → ℕ
   first cs p = cond (eqb (length cs) 0) 0 (carried p) ⊳ five p
 
-  abbrev number : List Cone → ℕ
+  abbrev pub number : List Cone → ℕ
   number cs = bad_list cs ⊳ five (laid_at cs 0)
 
-  same_refusals : (cs : List Cone) → first cs (place_of cs 0) ≡ number cs
+  pub same_refusals : (cs : List Cone) → first cs (place_of cs 0) ≡ number cs
   unfolding place_of ◌⊳◌
   same_refusals [] = refl
   same_refusals (c ∷ cs) = rw (ne_eqb (length (c ∷ cs)) 0 (λ q. omega arith), carries (c ∷ cs) 0) (go (cond (ltb 256 (length (c ∷ cs))) 2 0) (bad_records 0 (c ∷ cs)))
