@@ -41,7 +41,7 @@ pub record Small (p : Place) : Type 0 where
   pub next_start : p.start + dim p.kind ≤ 65536
   pub next_block : p.block + block_dim p.kind ≤ 196608
 
-pub in_range : (p : Place) → misplaced p ≡ 0 → Small p
+in_range : (p : Place) → misplaced p ≡ 0 → Small p
 unfolding misplaced
 in_range p e =
     let here = clear_misplaced p e in
@@ -57,6 +57,18 @@ in_range p e =
     last true true e = refl
     last true false e = absurd (omega arith)
     last false t e = absurd (omega arith)
+
+-- behind a single call on the cone at p, which is of that kind, each buffer has its length still; and where it answered, the numbers past it are small
+module _ (p : Place) (kind : Kind) (s z : List Float) (holds : Written) {news : Written} where
+  pub still_fit : {r : Ruling Reply} → tells r news ≡ comes (ahead_of p kind) update_scaling_deed holds (s ⨾ z ⨾ tt)
+      → Fits (tests_of p update_scaling_deed.writes (lengths_of update_scaling_deed.writes holds) ++ tests_of p update_scaling_deed.reads (lengths_of update_scaling_deed.reads (s ⨾ z ⨾ tt)))
+      → Fits (tests_of p update_scaling_deed.writes (lengths_of update_scaling_deed.writes news) ++ tests_of p update_scaling_deed.reads (lengths_of update_scaling_deed.reads (s ⨾ z ⨾ tt)))
+  still_fit f =
+      subst (λ ns. Fits (tests_of p update_scaling_deed.writes ns ++ tests_of p update_scaling_deed.reads (lengths_of update_scaling_deed.reads (s ⨾ z ⨾ tt))))
+      (sym (ap (λ (o : Outcome Reply Written). lengths_of update_scaling_deed.writes o.holds) f ∙ lengths_kept (ahead_of p kind) update_scaling_deed keeps holds (s ⨾ z ⨾ tt)))
+
+  pub answered_small : {t : Bool} → tells (gives (truth t)) news ≡ comes (ahead_of p kind) update_scaling_deed holds (s ⨾ z ⨾ tt) → Small (ahead_of p kind)
+  answered_small f = in_range (ahead_of p kind) (clear_both _ _ (clear_both _ _ (answered _ _ _ _ f)).0).1
 
 -- a walk that is over stays so
 pub stays : (s z : List Float) (cs : List Cone) (all : Outcome Scaled Written) → over_records (scaling_further s z) cs (over all) ≡ over all
@@ -131,7 +143,7 @@ module _ {cs : List Cone} {s z : List Float} {all : Outcome Scaled Written} {k :
     -- it answers t
     module _ {t : Bool} {news : Written} (f : tells (gives (truth t)) news ≡ came) where
       pub small : Small (ahead_of p kind)
-      small = in_range (ahead_of p kind) (clear_both _ _ (clear_both _ _ (answered _ _ _ _ f)).0).1
+      small = answered_small p kind s z holds f
 
       pub told_false : t ≡ false → tells (gives (false_at p.index)) news ≡ all
       unfolding passed_of scaling_closing
@@ -142,6 +154,5 @@ module _ {cs : List Cone} {s z : List Float} {all : Outcome Scaled Written} {k :
       told_true g =
           record {
             left = sym (ap (λ (t : Bool). onward kind (gives (truth t)) news) g) ∙ one _ _ f;
-            fits = subst (λ ns. Fits (tests_of p update_scaling_deed.writes ns ++ tests_of p update_scaling_deed.reads (lengths_of update_scaling_deed.reads (s ⨾ z ⨾ tt))))
-                (sym (ap (λ (o : Outcome Reply Written). lengths_of update_scaling_deed.writes o.holds) f ∙ lengths_kept (ahead_of p kind) update_scaling_deed keeps holds (s ⨾ z ⨾ tt))) h.fits;
+            fits = still_fit p kind s z holds f h.fits;
           }

@@ -3,7 +3,7 @@
 use Prim.Native.Nat.{ℕ, suc, ◌+◌, ◌-◌, ◌≤◌, ◌<◌}
 use native.Mathlib.Omega.{arith}
 use native.Mathlib.Numerals.{add-one}
-use mathlib.Core.Path.{◌≡◌, sym, ap, ◌∙◌, subst}
+use mathlib.Core.Path.{◌≡◌, sym, ap, ◌∙◌}
 use mathlib.Core.Bool.{Bool, true, false, cond}
 use mathlib.Core.List.{List, ◌++◌, map}
 use lib.Dec.{ltb, eqb}
@@ -21,13 +21,11 @@ use Rattle.conelist.proofs.Placed.{all_fit}
 use Rattle.walks.proofs.Indexed.{kind_at}
 use Rattle.conewalk.proofs.Laid.{spot}
 use Rattle.conecalls.specs.Deed.{lengths_of, tests_of, comes}
-use Rattle.conecalls.proofs.Own.{lengths_kept}
 use Rattle.list_scaling.specs.Scaling.{update_scaling_deed, lengths_at}
-use Rattle.list_scaling.proofs.Laws.{keeps}
 use Rattle.whole_scaling.specs.List.{Written, behind_of, singly_of, unless, list_update_scaling}
 use Rattle.whole_scaling.specs.Walk.{ahead_of, past_of, started, scaling_from}
 use Rattle.whole_scaling.proofs.Laws as walk
-use Rattle.whole_scaling.proofs.Laws.{Small, in_range}
+use Rattle.whole_scaling.proofs.Laws.{Small, still_fit, answered_small}
 use Rattle.whole_scaling.proofs.Walked.{next, ahead, carries, five, number, same_refusals, walked as walked_from}
 
 -- cone k is in the list, and of that kind
@@ -141,7 +139,7 @@ module _ {cs : List Cone} {s z : List Float} {all : Outcome Scaled Written} {k :
     -- it answers t
     module _ {t : Bool} {news : Written} (f : tells (gives (truth t)) news ≡ came) where
       pub small : Small (ahead_of p kind)
-      small = in_range (ahead_of p kind) (clear_both _ _ (clear_both _ _ (answered _ _ _ _ f)).0).1
+      small = answered_small p kind s z holds f
 
       clear : bad_list cs ≡ 0
       clear = unbarred cs k (sym (spot cs k) ∙ ap spot_of (sym placed) ∙ (clear_both _ _ (answered _ _ _ _ f)).0)
@@ -159,6 +157,5 @@ module _ {cs : List Cone} {s z : List Float} {all : Outcome Scaled Written} {k :
           record {
             left = sym (ap (λ (t : Bool). behind_of k (gives (truth t)) news onward) g) ∙ one _ _ f;
             here = λ m. ap (λ (q : Place). ahead_of (past_of q) (kind_of_cone cs (k + 1))) at ∙ shifted cs k ∙ ahead cs clear (k + 1) m;
-            fits = subst (λ ns. Fits (tests_of p update_scaling_deed.writes ns ++ tests_of p update_scaling_deed.reads (lengths_of update_scaling_deed.reads (s ⨾ z ⨾ tt))))
-                (sym (ap (λ (o : Outcome Reply Written). lengths_of update_scaling_deed.writes o.holds) f ∙ lengths_kept (ahead_of p kind) update_scaling_deed keeps holds (s ⨾ z ⨾ tt))) h.fits;
+            fits = still_fit p kind s z holds f h.fits;
           }
